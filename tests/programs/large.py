@@ -41,6 +41,12 @@ def descending_bookings(size):
     return "room blue\n" + "".join(f"book blue {day(2 * n)} {day(2 * n)}\n" for n in range(size, 0, -1)) + f"gap blue 2 {day(2)} {day(2 * size)}\n"
 
 
+def different(count):
+    """So many variables, no two of which are equal: a rule for each two of them."""
+    names = [f"v{n}" for n in range(count)]
+    return "".join(f"var {name} 0 {count}\n" for name in names) + f"different {' '.join(names)}\n" * 2
+
+
 def folded(a, b):
     """The halves of a product of 128 bits, joined, as the kit's hasher without a key mixes two numbers."""
     return a * b % 2**64 ^ a * b >> 64
@@ -68,6 +74,8 @@ INPUTS = {
         "cuts": lambda size: "".join(f"var v{n} 0 9\n" for n in range(size)) + "".join(f"cut v{n} 1 9\n" for n in range(size)),
         "lines that change nothing": lambda size: "".join(f"var v{n} 0 9\n" for n in range(4 * size)) + "go on\n" * (size // 10),
         "unknown names": lambda size: "".join(f"cut v{n} 0 9\n" for n in range(size)),
+        "rules that share a variable": lambda size: "var x 0 9\n" + "".join(f"var v{n} 0 9\nv{n} <= x\n" for n in range(size // 2)),
+        "different numbers, twice": lambda size: different(round((10 * size) ** 0.5)),
         "a long name": lambda size: f"var {'x' * (10 * size)} 0 9\nshow\n",
         "pairs": lambda size: f"var x {numbers(size)}\nshow x\n",
     },

@@ -89,3 +89,10 @@ pub made_before : {T E : Type 0} (result : Result T E) (whole : ℤ × ℤ) (bud
     → OnErr result ((count : ℕ) × (count < budget) × AreRuleNarrowings old.rules count (set_at old.domains) (set_at new.domains))
 made_before (Ok value) whole budget old new h = tt
 made_before (Err error) whole budget old new h = (h.0, h.2, h.1.narrowings)
+
+-- what was made before an error counts for no more than the budget
+pub within_before : {T E : Type 0} (result : Result T E) (whole : ℤ × ℤ) (budget left : ℕ) (old new : RulesState) → HasMade whole budget left old new
+    → OnErr result ((by : List Rule) × (cost : ℕ) × AreRulesCounted old.rules by cost old.domains new.domains × (cost ≤ budget)
+    × (length by + work_of_rules whole new ≤ work_of_rules whole old))
+within_before (Ok value) whole budget left old new h = tt
+within_before (Err error) whole budget left old new h = (h.by, h.cost, h.counted, (let s = h.spent in omega (arith, s)), h.fewer)

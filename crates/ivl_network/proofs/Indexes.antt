@@ -1,18 +1,22 @@
 -- The lists of the rules that name a variable, where a rule is added or dropped.
 use Rattle.std.proofs.Common.{◌≡◌, ◌∙◌, ◌+◌, ◌-◌, ◌*◌, ◌/◌, ◌<◌, ◌≤◌, ◌⊎◌, inl, inr, Bool, true, false, ℕ, ap, arith, get_or, length, List, [], ◌∷◌, ◌++◌, refl, set, subst, sym, take}
-use Rattle.std.specs.Prelude.{ℤ, All, Contains, Option, Some, None}
+use Rattle.std.specs.Prelude.{ℤ, All, Option, Some, None, map}
 use Rattle.std.proofs.Math.ListN.{get_or-append, get_or-eq_default}
+use Rattle.std.proofs.Math.Seq.{take-append_seam}
 use Rattle.std.proofs.lemmas.Bool.{cases_eq, cases_lt, false≢true}
-use Rattle.std.proofs.lemmas.List.{get_or_default, get_or_push, get_or-take, length-append, length-set, length-take, length_push, get_or-set_other, get_or-set_same}
+use Rattle.std.proofs.lemmas.List.{get_or_push, get_or-take, length-append, length-set, length-take, length_push, get_or-set_other, get_or-set_same, map-append}
 use Rattle.ivl_network.specs.declared.network.index.Index.{Index}
 use Rattle.ivl_rules.specs.declared.rules.Rule.{Rule}
 use Rattle.ivl_rules.specs.declared.rules.Rule.TheVariants.{Sum}
 use Rattle.ivl_store.specs.declared.store.constraint.Constraint.{Constraint}
 use Rattle.ivl_store.specs.NarrowedSets.{narrowed_at}
 use Rattle.ivl_network.specs.Families.{ArePresent}
-use Rattle.ivl_network.specs.Queue.{IsLastNamingRule, IsListed, IsListedAt, IsRuleIndex, IsRulePlace, lasts_of}
+use Rattle.ivl_network.specs.declared.network.hashes.Hashes.{Hashes}
+use Rattle.ivl_network.specs.Hashes.{AreHashLists}
+use Rattle.ivl_network.specs.Queue.{AreKnown, IsLastNamingRule, IsListed, IsListedAt, IsRuleIndex, IsRulePlace, lasts_of}
+use Rattle.ivl_network.specs.RuleHashes.{hash_of_rule}
 use Rattle.ivl_laws.proofs.Places.{get_or-append_right}
-use Rattle.ivl_rules.specs.Rules.{NamesOf, needs_singles, places}
+use Rattle.ivl_rules.specs.Rules.{needs_singles, places}
 use Rattle.ivl_store.specs.Narrowing.{AllPresent}
 use Rattle.ivl_store.specs.Solutions.{Names}
 
@@ -133,21 +137,42 @@ of_both P t f true = t
 of_both P t f false = f
 
 pub same_index : (count : ℕ) (cs : List Rule) (index index' : Index) → ((s : Bool) → lasts_of s index' ≡ lasts_of s index) → index'.links.items ≡ index.links.items
-    → IsRuleIndex count cs index → IsRuleIndex count cs index'
-same_index count cs index index' e f was = record {
+    → (AreKnown cs index.hashes → AreKnown cs index'.hashes) → IsRuleIndex count cs index → IsRuleIndex count cs index'
+same_index count cs index index' e f known was = record {
+  known = known was.known;
   one_each = (λ s. ap length (e s) ∙ was.one_each s);
   four_each = ap length f ∙ was.four_each;
   lasts = (λ s i. subst (λ l. IsLastNamingRule s cs i (length cs) (get_or l i 0)) (sym (e s)) (was.lasts s i));
   links = (λ s k i place d lt at. subst (λ ls. IsLastNamingRule s cs i k (get_or ls place 0)) (sym f) (was.links s k i place d lt at));
 }
 
+-- hashes that are the same
+pub known_same : (cs : List Rule) (hashes hashes' : Hashes) → AreHashLists hashes' → hashes'.hashes.items ≡ hashes.hashes.items → AreKnown cs hashes → AreKnown cs hashes'
+known_same cs hashes hashes' lists same known = (lists, same ∙ known.1)
+
+-- one more, and one less
+pub known_pushed : (cs : List Rule) (c : Rule) (hash : ℕ) (hashes hashes' : Hashes) → AreHashLists hashes' → hashes'.hashes.items ≡ hashes.hashes.items ++ hash ∷ [] → hash ≡ hash_of_rule c
+    → AreKnown cs hashes → AreKnown (cs ++ c ∷ []) hashes'
+known_pushed cs c hash hashes hashes' lists added is known =
+    (lists, added ∙ ap (λ l. l ++ hash ∷ []) known.1 ∙ ap (λ h. map hash_of_rule cs ++ h ∷ []) is ∙ sym (map-append hash_of_rule cs (c ∷ [])))
+
+pub known_popped : (cs : List Rule) (c : Rule) (hashes hashes' : Hashes) → AreHashLists hashes' → hashes'.hashes.items ≡ take (length hashes.hashes.items - 1) hashes.hashes.items
+    → AreKnown (cs ++ c ∷ []) hashes → AreKnown cs hashes'
+known_popped cs c hashes hashes' lists left known =
+    let is : hashes.hashes.items ≡ map hash_of_rule cs ++ hash_of_rule c ∷ [] = known.1 ∙ map-append hash_of_rule cs (c ∷ []) in
+    (lists, left ∙ ap (λ l. take (length l - 1) l) is ∙ dropped (map hash_of_rule cs) (hash_of_rule c))
+  where
+    dropped : (l : List ℕ) (x : ℕ) → take (length (l ++ x ∷ []) - 1) (l ++ x ∷ []) ≡ l
+    dropped l x = ap (λ n. take n (l ++ x ∷ [])) (let n = length_push l x in let m : length (l ++ x ∷ []) - 1 ≡ length l = omega (arith, n) in m) ∙ take-append_seam l (x ∷ [])
+
 -- a variable that is not there is named by none
 absent_last : (s : Bool) (count : ℕ) (cs : List Rule) (index : Index) (i : ℕ) → IsRuleIndex count cs index → length (lasts_of s index) ≤ i → IsLastNamingRule s cs i (length cs) 0
 absent_last s count cs index i was le = subst (λ p. IsLastNamingRule s cs i (length cs) p) (get_or-eq_default (lasts_of s index) 0 le) (was.lasts s i)
 
 pub variable_pushed : (count : ℕ) (cs : List Rule) (index index' : Index) → ((s : Bool) → lasts_of s index' ≡ lasts_of s index ++ 0 ∷ []) → index'.links.items ≡ index.links.items
-    → IsRuleIndex count cs index → IsRuleIndex (count + 1) cs index'
-variable_pushed count cs index index' e f was = record {
+    → index'.hashes ≡ index.hashes → IsRuleIndex count cs index → IsRuleIndex (count + 1) cs index'
+variable_pushed count cs index index' e f same was = record {
+  known = subst (AreKnown cs) (sym same) was.known;
   one_each = (λ s. let n = length_push (lasts_of s index) 0 in let one = was.one_each s in ap length (e s) ∙ omega (arith, n, one));
   four_each = ap length f ∙ was.four_each;
   lasts = (λ s i. subst (λ l. IsLastNamingRule s cs i (length cs) (get_or l i 0)) (sym (e s)) (elim (cases_lt i (length (lasts_of s index))) [
@@ -174,8 +199,9 @@ unnamed_last s n cs i present le = record {
 }
 
 pub variable_popped : (count : ℕ) (cs : List Rule) (index index' : Index) → ((s : Bool) → lasts_of s index' ≡ take (length (lasts_of s index) - 1) (lasts_of s index))
-    → index'.links.items ≡ index.links.items → IsRuleIndex count cs index → All (ArePresent (count - 1)) cs → IsRuleIndex (count - 1) cs index'
-variable_popped count cs index index' e f was present = record {
+    → index'.links.items ≡ index.links.items → index'.hashes ≡ index.hashes → IsRuleIndex count cs index → All (ArePresent (count - 1)) cs → IsRuleIndex (count - 1) cs index'
+variable_popped count cs index index' e f same was present = record {
+  known = subst (AreKnown cs) (sym same) was.known;
   one_each = (λ s. let one = was.one_each s in let n = length-take (length (lasts_of s index) - 1) (lasts_of s index) in ap length (e s) ∙ omega (arith, n, one));
   four_each = ap length f ∙ was.four_each;
   lasts = (λ s i. subst (λ l. IsLastNamingRule s cs i (length cs) (get_or l i 0)) (sym (e s)) (elim (cases_lt i (length (lasts_of s index) - 1)) [
@@ -270,13 +296,14 @@ more_at links links' x y z n i place c P added four of_x of_y of_z at = elim at 
 index_pushed_at : (count : ℕ) (cs : List Rule) (c : Rule) (s : Bool) (index index' : Index) (start : ℕ) → needs_singles c ≡ s → ArePresent (length (lasts_of s index)) c
     → start ≡ length index.links.items
     → HasFourMore index.links.items index'.links.items (get_or (lasts_of s index) (places c).x 0) (get_or (lasts_of s index) (places c).y 0) (get_or (lasts_of s index) (places c).z 0)
-    → IsPutAt s (places c) (start + 1) (start + 2) (start + 3) index index' → IsRuleIndex count cs index → IsRuleIndex count (cs ++ c ∷ []) index'
-index_pushed_at count cs c s index index' start is present at links put was =
+    → IsPutAt s (places c) (start + 1) (start + 2) (start + 3) index index' → (AreKnown cs index.hashes → AreKnown (cs ++ c ∷ []) index'.hashes) → IsRuleIndex count cs index → IsRuleIndex count (cs ++ c ∷ []) index'
+index_pushed_at count cs c s index index' start is present at links put known was =
     let n = length_push cs c in
     let m = links.count in
     let four = was.four_each in
     let before : (i : ℕ) → IsLastNamingRule s (cs ++ c ∷ []) i (length cs) (get_or (lasts_of s index) i 0) = (λ i. more s cs c i (length cs) _ (omega arith) (was.lasts s i)) in
     record {
+      known = known was.known;
       one_each = put_lengths s (places c) (start + 1) (start + 2) (start + 3) index index' count put was.one_each;
       four_each = omega (arith, n, m, four);
       lasts = put_lasts s (places c) (start + 1) (start + 2) (start + 3) index index' (λ t j q. IsLastNamingRule t (cs ++ c ∷ []) j (length (cs ++ c ∷ [])) q) put present
@@ -298,9 +325,9 @@ index_pushed_at count cs c s index index' start is present at links put was =
     }
 
 index_popped_at : (count : ℕ) (cs : List Rule) (c : Rule) (s : Bool) (index index' : Index) (x y z : ℕ) → needs_singles c ≡ s → ArePresent (length (lasts_of s index)) c
-    → HasFourMore index'.links.items index.links.items x y z → IsPutAt s (places c) x y z index index'
+    → HasFourMore index'.links.items index.links.items x y z → IsPutAt s (places c) x y z index index' → (AreKnown (cs ++ c ∷ []) index.hashes → AreKnown cs index'.hashes)
     → IsRuleIndex count (cs ++ c ∷ []) index → IsRuleIndex count cs index'
-index_popped_at count cs c s index index' x y z is present links put was =
+index_popped_at count cs c s index index' x y z is present links put known was =
     let n = length_push cs c in
     let m = links.count in
     let four = was.four_each in
@@ -309,6 +336,7 @@ index_popped_at count cs c s index index' x y z is present links put was =
     (λ i place q at e. subst (λ r. IsLastNamingRule s cs i (length cs) r) e (fewer s cs c i (length cs) _ (omega arith)
     (was.links s (length cs) i place c (omega (arith, n)) (subst (IsListedAt s (length cs) i place) (sym (get_or_push cs c c (length cs) refl)) (at, is))))) in
     record {
+      known = known was.known;
       one_each = put_lengths s (places c) x y z index index' count put was.one_each;
       four_each = same;
       lasts = put_lasts s (places c) x y z index index' (λ t j q. IsLastNamingRule t cs j (length cs) q) put present
@@ -326,20 +354,20 @@ index_popped_at count cs c s index index' x y z is present links put was =
 pub index_pushed : (count : ℕ) (cs : List Rule) (c : Rule) (p : Constraint) (s : Bool) (index index' : Index) (start : ℕ) → p ≡ places c → needs_singles c ≡ s
     → ArePresent (length (lasts_of (needs_singles c) index)) c → start ≡ length index.links.items
     → index'.links.items ≡ index.links.items ++ 0 ∷ get_or (lasts_of s index) p.x 0 ∷ get_or (lasts_of s index) p.y 0 ∷ get_or (lasts_of s index) p.z 0 ∷ []
-    → IsPutAt s p (start + 1) (start + 2) (start + 3) index index' → IsRuleIndex count cs index → IsRuleIndex count (cs ++ c ∷ []) index'
-index_pushed count cs c p s index index' start at is present top links put was =
+    → IsPutAt s p (start + 1) (start + 2) (start + 3) index index' → (AreKnown cs index.hashes → AreKnown (cs ++ c ∷ []) index'.hashes) → IsRuleIndex count cs index → IsRuleIndex count (cs ++ c ∷ []) index'
+index_pushed count cs c p s index index' start at is present top links put known was =
     let lasts = lasts_of s index in
     index_pushed_at count cs c s index index' start is (subst (λ t. ArePresent (length (lasts_of t index)) c) is present) top
     (subst (λ (q : Constraint). HasFourMore index.links.items index'.links.items (get_or lasts q.x 0) (get_or lasts q.y 0) (get_or lasts q.z 0)) at (four_more index.links.items index'.links.items _ _ _ links))
-    (subst (λ (q : Constraint). IsPutAt s q (start + 1) (start + 2) (start + 3) index index') at put) was
+    (subst (λ (q : Constraint). IsPutAt s q (start + 1) (start + 2) (start + 3) index index') at put) known was
 
 pub index_popped : (count : ℕ) (cs : List Rule) (c : Rule) (p : Constraint) (s : Bool) (index index' : Index) (x y z : ℕ) → p ≡ places c → needs_singles c ≡ s
     → ArePresent (length (lasts_of (needs_singles c) index)) c
-    → HasFourMore index'.links.items index.links.items x y z → IsPutAt s p x y z index index'
+    → HasFourMore index'.links.items index.links.items x y z → IsPutAt s p x y z index index' → (AreKnown (cs ++ c ∷ []) index.hashes → AreKnown cs index'.hashes)
     → IsRuleIndex count (cs ++ c ∷ []) index → IsRuleIndex count cs index'
-index_popped count cs c p s index index' x y z at is present links put was =
+index_popped count cs c p s index index' x y z at is present links put known was =
     index_popped_at count cs c s index index' x y z is (subst (λ t. ArePresent (length (lasts_of t index)) c) is present) links
-    (subst (λ (q : Constraint). IsPutAt s q x y z index index') at put) was
+    (subst (λ (q : Constraint). IsPutAt s q x y z index index') at put) known was
 
 -- an index of no more than three numbers has no rule
 pub no_rule_left : (count n : ℕ) (cs : List Rule) (c : Rule) (index : Index) → n ≡ length index.links.items → n < 4 → IsRuleIndex count (cs ++ c ∷ []) index → ⊥
@@ -383,36 +411,3 @@ next_is_lower s cs i place next pos n = elim (cases_lt 0 next) [
   | inl some ↦ (let low = n.low some in omega (arith, low))
   | inr none ↦ omega (arith, none, pos)
 ]
-
--- each from a place on is not the one that is looked for
-pub record NotFrom (cs : List Rule) (c : Rule) (i place : ℕ) : Type 0 where
-  pub low : 0 < place → place < 4 * length cs
-  pub named : NamesOf c i
-  pub names : (k : ℕ) (d : Rule) → 0 < place → 4 * k ≤ place → place < 4 * k + 4 → IsListedAt (needs_singles c) k i place (get_or cs k d)
-  pub none : (k : ℕ) (d : Rule) → place ≤ 4 * k → k < length cs → get_or cs k d ≡ c → ⊥
-
-pub not_at_first : (cs : List Rule) (c : Rule) (i place : ℕ) → i ≡ (places c).z → IsLastNamingRule (needs_singles c) cs i (length cs) place → NotFrom cs c i place
-not_at_first cs c i place e s = record {
-  low = s.low;
-  named = inr (inr e);
-  names = s.names;
-  none = (λ k d from to f. s.none k d from to (subst (IsListed (needs_singles c) i) (sym f) (inr (inr e), refl)));
-}
-
-pub not_at_next : (cs : List Rule) (c : Rule) (i place next : ℕ) (e : Rule) → NotFrom cs c i place → 0 < place
-    → IsLastNamingRule (needs_singles c) cs i (place / 4) next → (get_or cs (place / 4) e ≡ c → ⊥) → NotFrom cs c i next
-not_at_next cs c i place next e s pos n not = record {
-  low = (λ some. let a = n.low some in let b = s.low pos in omega (arith, a, b));
-  named = s.named;
-  names = n.names;
-  none = (λ k d from to f. elim (cases_eq k (place / 4)) [
-    | inl at ↦ not (sym (ap (λ m. get_or cs m e) at) ∙ get_or_default cs k e d to ∙ f)
-    | inr ne ↦ elim (cases_lt k (place / 4)) [
-      | inl lt ↦ n.none k d from lt (subst (IsListed (needs_singles c) i) (sym f) (s.named, refl))
-      | inr ge ↦ s.none k d (omega (arith, ge, ne)) to f
-    ]
-  ]);
-}
-
-pub not_there : (cs : List Rule) (c : Rule) (i place : ℕ) → NotFrom cs c i place → place ≤ 0 → Contains cs c → ⊥
-not_there cs c i place s end h = s.none h.0 c (omega (arith, end)) h.1 h.2

@@ -2,9 +2,11 @@ mod ExamplesRules
 pub mod Budgets
 pub mod Costs
 pub mod Families
+pub mod Finding
 pub mod Histories
 pub mod Indexes
 pub mod Kept
+pub mod Linking
 pub mod Logging
 pub mod Losses
 pub mod Marks

@@ -137,6 +137,6 @@ dropped_marks marks marks' trail trail' now n e (inr same) =
 
 -- ---- the states
 
-pub state_is : (d d' : List (List (ℤ × ℤ))) (c c' : List Rule) (u u' : ℕ) (m m' : List RulesPast) → d ≡ d' → c ≡ c' → u ≡ u' → m ≡ m'
-    → ◌≡◌ {A = RulesState} (record { domains = d; rules = c; unsettled = u; marked = m }) (record { domains = d'; rules = c'; unsettled = u'; marked = m' })
-state_is d d' c c' u u' m m' e f g h = rw (e, f, g, h) refl
+pub state_is : (d d' : List (List (ℤ × ℤ))) (c c' : List Rule) (f f' : List Bool) (m m' : List RulesPast) → d ≡ d' → c ≡ c' → f ≡ f' → m ≡ m'
+    → ◌≡◌ {A = RulesState} (record { domains = d; rules = c; settled = f; marked = m }) (record { domains = d'; rules = c'; settled = f'; marked = m' })
+state_is d d' c c' f f' m m' of_domains of_rules of_flags of_marks = rw (of_domains, of_rules, of_flags, of_marks) refl

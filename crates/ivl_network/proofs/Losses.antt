@@ -5,6 +5,7 @@ use Rattle.std.proofs.lemmas.Bool.{cases_eq, false≢true}
 use Rattle.std.proofs.lemmas.Bool.Decides.{nat_tests}
 use Rattle.ivl_laws.specs.Families.{set_at}
 use Rattle.ivl_laws.specs.Runs.{Covers, IsRunListIn}
+use Rattle.ivl_laws.specs.Sets.{IsSubset}
 use Rattle.ivl_store.specs.declared.store.constraint.Constraint.{Constraint}
 use Rattle.ivl_store.specs.declared.store.settled.Lost.{Lost}
 use Rattle.ivl_store.specs.NarrowedSets.{IsLeftOf}
@@ -25,6 +26,11 @@ made_in_range whole L S None h s e = absurd (not_none e)
     not_none : None ≡ Some s → ⊥
     not_none f = cc
 made_in_range whole L S (Some left) h s e = subst (IsRunListIn whole) (ap (λ (o : Option (List (ℤ × ℤ))). kept_or o []) e) h.1
+
+-- none is made where all members may stay
+pub none_made : (whole : ℤ × ℤ) (L : List (ℤ × ℤ)) (S : ℤ → Type 0) (made : Option (List (ℤ × ℤ))) → IsLeftOf whole L S made → IsSubset (Covers L) S → is_some made ≡ false
+none_made whole L S None h within = refl
+none_made whole L S (Some left) h within = absurd (h.3 (λ z. ((λ m. ((h.2 z).0 m).0), (λ m. (h.2 z).1 (m, within z m)))))
 
 -- so does that at z, where one is made
 pub last_in_range : (whole : ℤ × ℤ) (c : Constraint) (P : ℕ → ℤ → Type 0) (sets : List (List (ℤ × ℤ))) (x y z : Option (List (ℤ × ℤ))) → AreLeftAtPlaces whole c P sets x y z

@@ -1,8 +1,10 @@
 pub mod Costs
 pub mod Families
+pub mod Hashes
 pub mod Network
 pub mod NetworkLaws
 pub mod Queue
 pub mod Rounds
+pub mod RuleHashes
 pub mod Settled
 pub mod Trail

@@ -1,17 +1,21 @@
 -- What a network of rules keeps, and what its calls do to that.
---     RulesState      the domain of each variable, the rules so far, how many of these have to be looked at again, and what both lists were at each mark
+--     RulesState      the domain of each variable, the rules so far, whether each of these is settled, so that it need not be looked at again, and what the
+--         first two were at each mark
+--     IsWaiting network rule      the rule is one of those that are not settled
 --     work_of_rules whole network      how many narrowings are left at most, of which each removes a member or leaves one rule fewer to look at
 --     IsSoundRules domains rules flags      the rules name different variables, which have a domain; narrowing by one whose flag is set changes nothing
 --     IsRuleRequired rule old new      the rule is among the new ones, at the end, or where it was if it was among the old ones
 --     IsCutAt i S before after      variable i keeps its members that are in S, and the others keep all
 --     AreRuleNarrowings rules count before after      so many narrowings, each by one of the rules, leave these members
 --     AreNarrowedTo whole before count after      so, and so many fewer are left of them
-use Rattle.std.specs.Prelude.{◌≡◌, ◌↔◌, ◌≤◌, ◌⊎◌, ◌++◌, ◌∷◌, [], ◌+◌, ◌*◌, ℕ, ℤ, Bool, List, All, Contains, length}
+--     IsEmptiedLast rules count before after      so, and all but the last of them left no domain empty
+use Rattle.std.specs.Prelude.{◌≡◌, ◌↔◌, ◌<◌, ◌≤◌, ◌⊎◌, ◌++◌, ◌∷◌, [], ◌+◌, ◌*◌, ℕ, ℤ, Bool, true, false, List, All, Any, Contains, length, slice_index_or}
 use Rattle.ivl_laws.specs.Families.{set_at}
 use Rattle.ivl_store.specs.Measure.{total}
 use Rattle.ivl_rules.specs.declared.rules.Rule.{Rule}
 use Rattle.ivl_rules.specs.Rules.{AreDifferent}
 use Rattle.ivl_network.specs.Families.{ArePresent}
+use Rattle.ivl_network.specs.Queue.{unsettled_count}
 use Rattle.ivl_network.specs.Rounds.{IsLeftByRules}
 use Rattle.ivl_network.specs.Settled.{AreSettledRules}
 use Rattle.ivl_network.specs.Trail.{RulesPast}
@@ -19,11 +23,14 @@ use Rattle.ivl_network.specs.Trail.{RulesPast}
 pub record RulesState : Type 0 where
   pub domains : List (List (ℤ × ℤ))
   pub rules : List Rule
-  pub unsettled : ℕ
+  pub settled : List Bool
   pub marked : List RulesPast
 
 abbrev pub work_of_rules : ℤ × ℤ → RulesState → ℕ
-work_of_rules whole network = total whole network.domains * (length network.rules + 1) + network.unsettled
+work_of_rules whole network = total whole network.domains * (length network.rules + 1) + unsettled_count network.settled
+
+abbrev pub IsWaiting : RulesState → Rule → Type 0
+IsWaiting network rule = (k : ℕ) × (k < length network.rules) × (slice_index_or network.rules k rule ≡ rule) × (slice_index_or network.settled k true ≡ false)
 
 pub record IsSoundRules (domains : List (List (ℤ × ℤ))) (rules : List Rule) (flags : List Bool) : Type 0 where
   pub different : All AreDifferent rules
@@ -45,3 +52,9 @@ pub record AreRuleNarrowings (rules : List Rule) (count : ℕ) (before after : �
 pub record AreNarrowedTo (whole : ℤ × ℤ) (before : RulesState) (count : ℕ) (after : RulesState) : Type 0 where
   pub narrowings : AreRuleNarrowings before.rules count (set_at before.domains) (set_at after.domains)
   pub fewer : count + work_of_rules whole after ≤ work_of_rules whole before
+
+pub record IsEmptiedLast (rules : List Rule) (count : ℕ) (before after : List (List (ℤ × ℤ))) : Type 0 where
+  pub filled : List (List (ℤ × ℤ))
+  pub none_empty : ¬ (Any (λ L. L ≡ []) filled)
+  pub first : AreRuleNarrowings rules count (set_at before) (set_at filled)
+  pub last : AreRuleNarrowings rules 1 (set_at filled) (set_at after)

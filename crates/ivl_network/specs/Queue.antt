@@ -9,15 +9,19 @@
 --     IsLastNamingRule singles rules i before place      such a place of the last of the first `before` rules that has one, and 0 where none has
 --     lasts_of singles index      the places that an index has for the variables, of the rules of one kind
 --     IsRuleIndex count rules index      for each of so many variables the last rule of each kind that names it, and for each place of a rule the last rule
---         before it that is of its kind and names the same
+--         before it that is of its kind and names the same; and the hashes of the rules
+--     AreKnown rules hashes      the lists of the rules' hashes
 --     IsRuleQueue queue      each rule that is not settled stands in the queue once, and nothing else does; there is room for all rules
-use Rattle.std.specs.Prelude.{◌≡◌, ◌<◌, ◌≤◌, ◌+◌, ◌*◌, ◌⊎◌, ℕ, Bool, true, false, List, [], ◌∷◌, eqb, if◌then◌else◌, length, not, slice_index_or}
+use Rattle.std.specs.Prelude.{◌≡◌, ◌<◌, ◌≤◌, ◌+◌, ◌*◌, ◌⊎◌, ℕ, Bool, true, false, List, [], ◌∷◌, eqb, if◌then◌else◌, length, map, not, slice_index_or}
 use Rattle.std.specs.List.{count_by}
 use Rattle.std.specs.Vec.{vec_capacity}
 use Rattle.ivl_rules.specs.declared.rules.Rule.{Rule}
 use Rattle.ivl_rules.specs.Rules.{NamesOf, needs_singles, places}
+use Rattle.ivl_network.specs.declared.network.hashes.Hashes.{Hashes}
 use Rattle.ivl_network.specs.declared.network.index.Index.{Index}
 use Rattle.ivl_network.specs.declared.network.queue.Queue.{Queue}
+use Rattle.ivl_network.specs.Hashes.{AreHashLists}
+use Rattle.ivl_network.specs.RuleHashes.{hash_of_rule}
 
 abbrev pub unsettled_count : List Bool → ℕ
 unsettled_count flags = count_by not flags
@@ -51,12 +55,16 @@ abbrev pub lasts_of : Bool → Index → List ℕ
 lasts_of true index = index.single_lasts.items
 lasts_of false index = index.lasts.items
 
+abbrev pub AreKnown : List Rule → Hashes → Type 0
+AreKnown rules hashes = AreHashLists hashes × (hashes.hashes.items ≡ map hash_of_rule rules)
+
 pub record IsRuleIndex (count : ℕ) (rules : List Rule) (index : Index) : Type 0 where
   pub one_each : (singles : Bool) → length (lasts_of singles index) ≡ count
   pub four_each : length index.links.items ≡ 4 * length rules
   pub lasts : (singles : Bool) (i : ℕ) → IsLastNamingRule singles rules i (length rules) (slice_index_or (lasts_of singles index) i 0)
   pub links : (singles : Bool) (k i place : ℕ) (d : Rule) → k < length rules → IsListedAt singles k i place (slice_index_or rules k d)
       → IsLastNamingRule singles rules i k (slice_index_or index.links.items place 0)
+  pub known : AreKnown rules index.hashes
 
 pub record IsRuleQueue (queue : Queue) : Type 0 where
   pub once : (k : ℕ) → times_in k queue.round.items + times_in k queue.later.items + times_in k queue.late.items ≡ waits queue.settled.items k

@@ -18,9 +18,10 @@
 ghost use Rattle.std.specs.Prelude.{Contains, HoldsAt, take, ◌≡◌, ◌↔◌, ◌⊎◌, ◌<◌, ◌≤◌, ◌++◌, ◌+◌, ◌∷◌, [], ℕ, ℤ, List, All, Any, Err, IfErr, IfOk, IsTrue, MatchOption, OnErr, OnOk, Some, false, length, true};
 ghost use Rattle.ivl_laws.specs.Families.{set_at};
 ghost use Rattle.ivl_laws.specs.Runs.{Covers, IsRunListIn};
-ghost use Rattle.ivl_laws.specs.Sets.{IsBetween};
+ghost use Rattle.ivl_laws.specs.Sets.{IsBetween, IsSubset};
 ghost use Rattle.ivl_store.specs.Narrowing.{first_unknown};
-ghost use Rattle.ivl_network.specs.Network.{AreNarrowedTo, AreRuleNarrowings, IsCutAt, IsRuleRequired, work_of_rules};
+ghost use Rattle.ivl_network.specs.Network.{AreNarrowedTo, AreRuleNarrowings, IsCutAt, IsEmptiedLast, IsRuleRequired, IsWaiting, work_of_rules};
+ghost use Rattle.ivl_network.specs.Queue.{unsettled_count};
 ghost use Rattle.ivl_store.specs.Posts.{HasEmpty};
 ghost use Rattle.ivl_rules.specs.declared.rules.Rule.{Rule};
 ghost use Rattle.ivl_rules.specs.Rules.{AreDifferent, places as places_of};
@@ -37,6 +38,7 @@ use std::marker::Model;
 
 mod allowed;
 mod change;
+mod hashes;
 mod index;
 pub mod laws;
 mod narrowing;
@@ -70,7 +72,7 @@ enum Step {
 }
 
 /// Variables with a domain each, and the rules between them so far. A contract sees the two lists, and
-/// how many rules have to be looked at again.
+/// which rules are settled, so that they need not be looked at again.
 ///
 /// Variables are named by their indexes from 0. Domains only lose members. A call that fails with
 /// [`StoreFault::Variable`] leaves the network unchanged.
@@ -99,14 +101,13 @@ pub struct Network<B: Width> {
 
 impl<B: Width> Model for Network<B> {
     ghost use Rattle.std.specs.Prelude.{length, map};
-    ghost use Rattle.ivl_network.specs.Queue.{unsettled_count};
     ghost use Rattle.ivl_network.specs.Network.{IsSoundRules, RulesState};
     ghost use Rattle.ivl_network.specs.Queue.{IsRuleIndex, IsRuleQueue};
     ghost use Rattle.ivl_network.specs.Trail.{AreSettledMarks, IsSoundRuleTrail, rules_past_at};
 
     ghost Value = { RulesState };
 
-    ghost view = { λ n. record { domains = n.store; rules = n.rules.items; unsettled = unsettled_count n.queue.settled.items; marked = map (rules_past_at n.trail.items (record { domains = n.store; rules = n.rules.items })) n.marks.items } };
+    ghost view = { λ n. record { domains = n.store; rules = n.rules.items; settled = n.queue.settled.items; marked = map (rules_past_at n.trail.items (record { domains = n.store; rules = n.rules.items })) n.marks.items } };
 
     ghost invariant = { λ n. IsSoundRules n.store n.rules.items n.queue.settled.items × IsSoundRuleTrail n.marks.items n.trail.items (record { domains = n.store; rules = n.rules.items }) × IsRuleIndex (length n.store) n.rules.items n.index × IsRuleQueue n.queue × AreSettledMarks n.settled_at_marks.items (map (rules_past_at n.trail.items (record { domains = n.store; rules = n.rules.items })) n.marks.items) };
 }
@@ -119,7 +120,7 @@ impl<B: Width> Network<B> {
     /// assert!(rt; network.domains().is_empty() && network.rules().is_empty());
     /// ```
     pub fn new(alloc: Global) -> Network<B>
-        ensures { result ≡ record { domains = []; rules = []; unsettled = 0; marked = [] } }
+        ensures { result ≡ record { domains = []; rules = []; settled = []; marked = [] } }
     {
         Network {
             store: Store::new(alloc, Vec::new(alloc)),
@@ -170,7 +171,8 @@ impl<B: Width> Network<B> {
     pub fn rules(&self) -> &[Rule]
         ensures same { result.now ≡ self.now.rules }
         ensures different { All AreDifferent self.now.rules }
-        ensures unsettled { self.now.unsettled ≤ length self.now.rules }
+        ensures one_each { length self.now.settled ≡ length self.now.rules }
+        ensures unsettled { unsettled_count self.now.settled ≤ length self.now.rules }
         ensures present { All (ArePresent (length self.now.domains)) self.now.rules }
     {
         self.rules.as_slice()
@@ -198,7 +200,7 @@ impl<B: Width> Network<B> {
     /// ```
     pub fn add_variable(&mut self, domain: IntervalSet<B>) -> Result<usize, AllocError>
         ensures index { IfOk result (λ i. i ≡ length self.old.domains) }
-        ensures added { OnOk result (self.new ≡ record { domains = self.old.domains ++ domain ∷ []; rules = self.old.rules; unsettled = self.old.unsettled; marked = self.old.marked }) }
+        ensures added { OnOk result (self.new ≡ record { domains = self.old.domains ++ domain ∷ []; rules = self.old.rules; settled = self.old.settled; marked = self.old.marked }) }
         ensures err { OnErr result (self.new ≡ self.old) }
     {
         let is_kept = is_logging(&self.marks);
@@ -218,7 +220,7 @@ impl<B: Width> Network<B> {
     /// The caller must ensure that the rule names each of its variables once. Check with
     /// [`Rule::is_over_different`].
     ///
-    /// Linear in the rules that name its last variable, which are compared with it.
+    /// Amortized `O(1)`: a rule is compared with those before it whose hashes fall together with its own.
     ///
     /// # Errors
     ///
@@ -241,6 +243,8 @@ impl<B: Width> Network<B> {
         ensures domains { self.new.domains ≡ self.old.domains }
         ensures marked { self.new.marked ≡ self.old.marked }
         ensures required { OnOk result (IsRuleRequired rule self.old.rules self.new.rules) }
+        ensures known { Contains self.old.rules rule → self.new ≡ self.old }
+        ensures added { OnOk result (¬ (Contains self.old.rules rule) → self.new ≡ record { domains = self.old.domains; rules = self.old.rules ++ rule ∷ []; settled = self.old.settled ++ false ∷ []; marked = self.old.marked }) }
         ensures refused { OnErr result (self.new ≡ self.old) }
     {
         if let Some(i) = rule.first_unknown(self.store.domains().len()) {
@@ -256,7 +260,7 @@ impl<B: Width> Network<B> {
     fn push(&mut self, rule: Rule) -> Result<(), AllocError>
         requires different { AreDifferent rule }
         requires present { ArePresent (length self.old.domains) rule }
-        ensures added { OnOk result (self.new ≡ record { domains = self.old.domains; rules = self.old.rules ++ rule ∷ []; unsettled = self.old.unsettled + 1; marked = self.old.marked }) }
+        ensures added { OnOk result (self.new ≡ record { domains = self.old.domains; rules = self.old.rules ++ rule ∷ []; settled = self.old.settled ++ false ∷ []; marked = self.old.marked }) }
         ensures refused { OnErr result (self.new ≡ self.old) }
     {
         let is_kept = is_logging(&self.marks);
@@ -291,6 +295,7 @@ impl<B: Width> Network<B> {
         ensures marked { self.new.marked ≡ self.old.marked }
         ensures kept_count { length self.new.domains ≡ length self.old.domains }
         ensures cut { OnOk result (IsCutAt variable (Covers allowed.now) (set_at self.old.domains) (set_at self.new.domains)) }
+        ensures same { IsSubset (set_at self.old.domains variable) (Covers allowed.now) → self.new ≡ self.old }
         ensures refused { OnErr result (self.new ≡ self.old) }
     {
         self.cut(variable, allowed)
@@ -321,6 +326,7 @@ impl<B: Width> Network<B> {
         ensures marked { self.new.marked ≡ self.old.marked }
         ensures kept_count { length self.new.domains ≡ length self.old.domains }
         ensures cut { OnOk result (IsCutAt variable (IsBetween allowed) (set_at self.old.domains) (set_at self.new.domains)) }
+        ensures same { IsSubset (set_at self.old.domains variable) (IsBetween allowed) → self.new ≡ self.old }
         ensures refused { OnErr result (self.new ≡ self.old) }
     {
         self.cut(variable, &allowed)
@@ -333,6 +339,7 @@ impl<B: Width> Network<B> {
         ensures marked { self.new.marked ≡ self.old.marked }
         ensures kept_count { length self.new.domains ≡ length self.old.domains }
         ensures cut { OnOk result (IsCutAt variable (A.members allowed.now) (set_at self.old.domains) (set_at self.new.domains)) }
+        ensures same { IsSubset (set_at self.old.domains variable) (A.members allowed.now) → self.new ≡ self.old }
         ensures refused { OnErr result (self.new ≡ self.old) }
     {
         if variable >= self.store.domains().len() {
@@ -414,7 +421,7 @@ impl<B: Width> Network<B> {
         ensures fewer { IfOk result (λ s. s ≡ Settled.Unfinished → budget + work_of_rules B.whole self.new ≤ work_of_rules B.whole self.old) }
 
         // All exactly where no rule is left to look at, and so wherever the budget covers the work.
-        ensures exactly { IfOk result (λ s. s ≡ Settled.All ↔ self.new.unsettled ≡ 0) }
+        ensures exactly { IfOk result (λ s. s ≡ Settled.All ↔ unsettled_count self.new.settled ≡ 0) }
         ensures enough { IfOk result (λ s. work_of_rules B.whole self.old ≤ budget → s ≡ Settled.All) }
     {
         self.narrow_up_to(budget, false)?;
@@ -451,13 +458,16 @@ impl<B: Width> Network<B> {
 
         // All: the domains are the greatest supported family, and no rule is left to look at.
         ensures greatest { IfOk result (λ s. s ≡ Settled.All → IsGreatestUnder self.old.rules (set_at self.old.domains) (set_at self.new.domains)) }
-        ensures exactly { IfOk result (λ s. s ≡ Settled.All ↔ self.new.unsettled ≡ 0) }
+        ensures exactly { IfOk result (λ s. s ≡ Settled.All ↔ unsettled_count self.new.settled ≡ 0) }
 
         // So many narrowings were made: all of the budget if some rule is left and no domain is empty, and none if one was.
         ensures made { IfOk result (λ s. (count : ℕ) × (count ≤ budget) × (s ≡ Settled.Unfinished → (count ≡ budget) ⊎ Any (λ L. L ≡ []) self.new.domains)
             × AreRuleNarrowings self.old.rules count (set_at self.old.domains) (set_at self.new.domains)) }
         ensures made_before { OnErr result ((count : ℕ) × (count < budget) × AreRuleNarrowings self.old.rules count (set_at self.old.domains) (set_at self.new.domains)) }
         ensures stops { Any (λ L. L ≡ []) self.old.domains → self.new ≡ self.old }
+
+        // All but the last of them left no domain empty.
+        ensures emptied { (self.new.domains ≡ self.old.domains) ⊎ ((count : ℕ) × (count < budget) × IsEmptiedLast self.old.rules count self.old.domains self.new.domains) }
 
         // No narrowing is made in vain: so many fewer are left.
         ensures fewer { IfOk result (λ s. s ≡ Settled.Unfinished → (budget + work_of_rules B.whole self.new ≤ work_of_rules B.whole self.old) ⊎ Any (λ L. L ≡ []) self.new.domains) }
@@ -474,9 +484,10 @@ impl<B: Width> Network<B> {
         ensures marked { self.new.marked ≡ self.old.marked }
         ensures kept_count { length self.new.domains ≡ length self.old.domains }
         ensures made { OnOk result ((count : ℕ) × AreNarrowedTo B.whole self.old count self.new × (count ≤ budget)
-            × ((self.new.unsettled ≡ 0) ⊎ ((count ≡ budget) ⊎ ((stops_at_empty ≡ true) × Any (λ L. L ≡ []) self.new.domains)))) }
+            × ((unsettled_count self.new.settled ≡ 0) ⊎ ((count ≡ budget) ⊎ ((stops_at_empty ≡ true) × Any (λ L. L ≡ []) self.new.domains)))) }
         ensures made_before { OnErr result ((count : ℕ) × AreNarrowedTo B.whole self.old count self.new × (count < budget)) }
         ensures stops { stops_at_empty ≡ true → Any (λ L. L ≡ []) self.old.domains → self.new ≡ self.old }
+        ensures emptied { stops_at_empty ≡ true → (self.new.domains ≡ self.old.domains) ⊎ ((count : ℕ) × (count < budget) × IsEmptiedLast self.old.rules count self.old.domains self.new.domains) }
     {
         for _ in 0..budget {
             if stops_at_empty && self.has_empty() {
@@ -525,11 +536,13 @@ impl<B: Width> Network<B> {
 
         // All: the domains are the greatest supported family, and no rule is left to look at.
         ensures greatest { IfOk result (λ s. s ≡ Settled.All → IsGreatestUnder self.old.rules (set_at self.old.domains) (set_at self.new.domains)) }
-        ensures exactly { IfOk result (λ s. s ≡ Settled.All ↔ self.new.unsettled ≡ 0) }
+        ensures exactly { IfOk result (λ s. s ≡ Settled.All ↔ unsettled_count self.new.settled ≡ 0) }
 
-        // What was made counts for no more than the budget, and the next narrowing for more than is left if some rule is left.
+        // What was made counts for no more than the budget, also on an error. If some rule is left, one that is not settled counts for more than is left.
         ensures made { IfOk result (λ s. (by : List Rule) × (cost : ℕ) × AreRulesCounted self.old.rules by cost self.old.domains self.new.domains × (cost ≤ budget)
-            × (s ≡ Settled.Unfinished → (next : Rule) × Contains self.old.rules next × (budget < cost + cost_of next self.new.domains))
+            × (s ≡ Settled.Unfinished → (next : Rule) × IsWaiting self.new next × (budget < cost + cost_of next self.new.domains))
+            × (length by + work_of_rules B.whole self.new ≤ work_of_rules B.whole self.old)) }
+        ensures made_before { OnErr result ((by : List Rule) × (cost : ℕ) × AreRulesCounted self.old.rules by cost self.old.domains self.new.domains × (cost ≤ budget)
             × (length by + work_of_rules B.whole self.new ≤ work_of_rules B.whole self.old)) }
     {
         let mut left = budget;
@@ -549,7 +562,7 @@ impl<B: Width> Network<B> {
         ensures kept_count { length self.new.domains ≡ length self.old.domains }
         ensures refused { OnErr result (self.new ≡ self.old) }
         ensures none { IfOk result (λ b. b ≡ false → (self.new ≡ self.old) × All (IsFixedBy (set_at self.old.domains)) self.old.rules) }
-        ensures done { IfOk result (λ b. b ≡ false → self.new.unsettled ≡ 0) }
+        ensures done { IfOk result (λ b. b ≡ false → unsettled_count self.new.settled ≡ 0) }
         ensures narrowed { IfOk result (λ b. b ≡ true → AreRuleNarrowings self.old.rules 1 (set_at self.old.domains) (set_at self.new.domains)) }
         ensures fewer { IfOk result (λ b. b ≡ true → 1 + work_of_rules B.whole self.new ≤ work_of_rules B.whole self.old) }
     {
@@ -567,8 +580,8 @@ impl<B: Width> Network<B> {
         ensures kept_count { length self.new.domains ≡ length self.old.domains }
         ensures refused { OnErr result (self.new ≡ self.old) }
         ensures none { IfOk result (λ s. s ≡ Step.Settled → (self.new ≡ self.old) × All (IsFixedBy (set_at self.old.domains)) self.old.rules) }
-        ensures done { IfOk result (λ s. s ≡ Step.Settled ↔ self.old.unsettled ≡ 0) }
-        ensures costly { IfOk result (λ s. s ≡ Step.Costly → (self.new ≡ self.old) × (next : Rule) × Contains self.old.rules next × (left < cost_of next self.old.domains)) }
+        ensures done { IfOk result (λ s. s ≡ Step.Settled ↔ unsettled_count self.old.settled ≡ 0) }
+        ensures costly { IfOk result (λ s. s ≡ Step.Costly → (self.new ≡ self.old) × (next : Rule) × IsWaiting self.old next × (left < cost_of next self.old.domains)) }
         ensures below { IfOk result (λ s. s ≡ Step.Costly → left < u64.MAX) }
         ensures counted { is_counted ≡ true → IfOk result (λ s. (cost : ℕ) → s ≡ Step.Made cost → (0 < cost) × (cost ≤ left) × (c : Rule) × AreRulesCounted self.old.rules (c ∷ []) cost self.old.domains self.new.domains) }
         ensures narrowed { IfOk result (λ s. (cost : ℕ) → s ≡ Step.Made cost → AreRuleNarrowings self.old.rules 1 (set_at self.old.domains) (set_at self.new.domains)) }
@@ -601,7 +614,7 @@ impl<B: Width> Network<B> {
     /// Whether all rules are settled.
     fn reached(&self) -> Settled
         ensures all { result ≡ Settled.All → All (IsFixedBy (set_at self.now.domains)) self.now.rules }
-        ensures exactly { result ≡ Settled.All ↔ self.now.unsettled ≡ 0 }
+        ensures exactly { result ≡ Settled.All ↔ unsettled_count self.now.settled ≡ 0 }
     {
         if self.queue.is_empty() {
             Settled::All
@@ -632,7 +645,7 @@ impl<B: Width> Network<B> {
     /// ```
     pub fn mark(&mut self) -> Result<usize, AllocError>
         ensures index { IfOk result (λ mark. mark ≡ length self.old.marked) }
-        ensures marked { OnOk result (self.new ≡ record { domains = self.old.domains; rules = self.old.rules; unsettled = self.old.unsettled; marked = self.old.marked ++ (record { domains = self.old.domains; rules = self.old.rules }) ∷ [] }) }
+        ensures marked { OnOk result (self.new ≡ record { domains = self.old.domains; rules = self.old.rules; settled = self.old.settled; marked = self.old.marked ++ (record { domains = self.old.domains; rules = self.old.rules }) ∷ [] }) }
         ensures err { OnErr result (self.new ≡ self.old) }
     {
         let mark = self.marks.len();
@@ -707,7 +720,7 @@ impl<B: Width> Network<B> {
     /// assert!(rt; !network.undo_to(mark) && network.domains().len() == 1);
     /// ```
     pub fn drop_marks(&mut self, mark: usize)
-        ensures { self.new ≡ record { domains = self.old.domains; rules = self.old.rules; unsettled = self.old.unsettled; marked = take mark self.old.marked } }
+        ensures { self.new ≡ record { domains = self.old.domains; rules = self.old.rules; settled = self.old.settled; marked = take mark self.old.marked } }
     {
         self.marks.truncate(mark);
         self.settled_at_marks.truncate(mark);

@@ -8,7 +8,7 @@ use Rattle.ivl_store_lines.specs.declared.progress.Progress.{Progress}
 use Rattle.ivl_store_lines.specs.Solving.{State}
 
 module _ (names pushed : List (String Global)) (key : String Global) (before after : RulesState) (domain : List (ℤ × ℤ))
-    (named : pushed ≡ names ++ key ∷ []) (added : after ≡ record { domains = before.domains ++ domain ∷ []; rules = before.rules; unsettled = before.unsettled; marked = before.marked }) where
+    (named : pushed ≡ names ++ key ∷ []) (added : after ≡ record { domains = before.domains ++ domain ∷ []; rules = before.rules; settled = before.settled; marked = before.marked }) where
   domains_after : after.domains ≡ before.domains ++ domain ∷ []
   domains_after = ap (λ (n : RulesState). n.domains) added
 
@@ -22,7 +22,7 @@ state names network limit progress = record { names = names; domains = network.d
 
 -- the state that a contract sees
 pub state_added : (names named : List (List ℕ)) (name : List ℕ) (before after : RulesState) (domain : List (ℤ × ℤ)) (limit : ℕ) (progress : Progress) (old : State)
-    → state names before limit progress ≡ old → named ≡ names ++ name ∷ [] → after ≡ record { domains = before.domains ++ domain ∷ []; rules = before.rules; unsettled = before.unsettled; marked = before.marked }
+    → state names before limit progress ≡ old → named ≡ names ++ name ∷ [] → after ≡ record { domains = before.domains ++ domain ∷ []; rules = before.rules; settled = before.settled; marked = before.marked }
     → state named after limit progress ≡ record { names = old.names ++ name ∷ []; domains = old.domains ++ domain ∷ []; rules = old.rules; limit = old.limit; progress = old.progress }
 state_added names named name before after domain limit progress old is named_is added_is =
     subst (λ (s : State). state named after limit progress ≡ record { names = s.names ++ name ∷ []; domains = s.domains ++ domain ∷ []; rules = s.rules; limit = s.limit; progress = s.progress }) is

@@ -3,6 +3,7 @@
 #![tactic(auto)]
 
 pub mod network;
+pub mod rule_search;
 pub mod rules;
 pub mod search;
 pub mod store;

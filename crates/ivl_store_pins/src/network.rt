@@ -1,5 +1,5 @@
 //! What the calls of a network mean.
-ghost use Rattle.std.specs.Prelude.{◌≡◌, ◌≢◌, ◌↔◌, ◌<◌, ◌≤◌, ◌+◌, ◌∷◌, [], ℕ, ℤ, List, All, Any, Contains, IfOk, IsTrue, OnErr, OnOk, length};
+ghost use Rattle.std.specs.Prelude.{◌≡◌, ◌≢◌, ◌↔◌, ◌⊎◌, ◌<◌, ◌≤◌, ◌+◌, ◌++◌, ◌∷◌, [], false, ℕ, ℤ, List, All, Any, Contains, IfOk, IsTrue, OnErr, OnOk, length};
 ghost use Rattle.ivl_laws.specs.Families.{set_at};
 ghost use Rattle.ivl_laws.specs.Runs.{Covers};
 ghost use Rattle.ivl_laws.specs.Sets.{IsBetween};
@@ -7,7 +7,8 @@ ghost use Rattle.ivl_rules.specs.declared.rules.Rule.{Rule};
 ghost use Rattle.ivl_rules.specs.Rules.{AreDifferent};
 ghost use Rattle.ivl_network.specs.Costs.{AreRulesCounted, cost_of_rule};
 ghost use Rattle.ivl_network.specs.Families.{IsCommonPoint, IsGreatestUnder};
-ghost use Rattle.ivl_network.specs.Network.{IsRuleRequired, work_of_rules};
+ghost use Rattle.ivl_network.specs.Network.{IsEmptiedLast, IsRuleRequired, IsWaiting, work_of_rules};
+ghost use Rattle.ivl_network.specs.Queue.{unsettled_count};
 
 use intervallum::interval::Interval;
 use intervallum::interval_set::IntervalSet;
@@ -22,7 +23,7 @@ pub fn network_of_one<B: Width>(
     alloc: Global,
     domain: IntervalSet<B>,
 ) -> Result<Network<B>, AllocError>
-    ensures { IfOk result (λ network. network ≡ record { domains = domain ∷ []; rules = []; unsettled = 0; marked = [] }) }
+    ensures { IfOk result (λ network. network ≡ record { domains = domain ∷ []; rules = []; settled = []; marked = [] }) }
 {
     let mut network = Network::new(alloc);
     network.add_variable(domain)?;
@@ -67,6 +68,16 @@ pub fn required_if_different<B: Width>(
     Ok(is_different)
 }
 
+/// Requires a rule: one that is there changes nothing, so that no settled rule has to be looked at again, and another is
+/// the one rule that is not settled beside those before.
+pub fn required<B: Width>(network: &mut Network<B>, rule: Rule) -> Result<(), StoreFault>
+    requires { AreDifferent rule }
+    ensures known { Contains network.old.rules rule → network.new ≡ network.old }
+    ensures added { OnOk result (¬ (Contains network.old.rules rule) → network.new.settled ≡ network.old.settled ++ false ∷ []) }
+{
+    network.require(rule)
+}
+
 /// Cuts a domain to its members in a set. The other domains stay.
 pub fn cut_to<B: Width>(
     network: &mut Network<B>,
@@ -95,12 +106,36 @@ pub fn cut_between<B: Width>(
     network.restrict_to_interval(variable, allowed)
 }
 
+/// Cuts a domain to a set that has all its members: nothing changes, and no settled rule has to be looked at again.
+pub fn cut_to_more<B: Width>(
+    network: &mut Network<B>,
+    variable: usize,
+    allowed: &IntervalSet<B>,
+) -> Result<(), StoreFault>
+    requires { (v : ℤ) → set_at network.old.domains variable v → Covers allowed.now v }
+    ensures { network.new ≡ network.old }
+{
+    network.restrict(variable, allowed)
+}
+
+/// Cuts a domain to an interval that has all its members: nothing changes.
+pub fn cut_to_interval_around<B: Width>(
+    network: &mut Network<B>,
+    variable: usize,
+    around: Interval<B>,
+) -> Result<(), StoreFault>
+    requires { (v : ℤ) → set_at network.old.domains variable v → IsBetween around v }
+    ensures { network.new ≡ network.old }
+{
+    network.restrict_to_interval(variable, around)
+}
+
 /// Narrows within a budget of narrowings, and returns whether all is narrowed, which it is where the
 /// budget covers the work.
 pub fn is_settled_by<B: Width>(network: &mut Network<B>, budget: u64) -> Result<bool, StoreFault>
     ensures solutions { (point : ℕ → ℤ) → IsCommonPoint network.old.rules (set_at network.old.domains) point → IsCommonPoint network.old.rules (set_at network.new.domains) point }
     ensures greatest { IfOk result (λ b. IsTrue b → IsGreatestUnder network.old.rules (set_at network.old.domains) (set_at network.new.domains)) }
-    ensures exactly { IfOk result (λ b. IsTrue b ↔ network.new.unsettled ≡ 0) }
+    ensures exactly { IfOk result (λ b. IsTrue b ↔ unsettled_count network.new.settled ≡ 0) }
     ensures enough { IfOk result (λ b. work_of_rules B.whole network.old ≤ budget → IsTrue b) }
 {
     let settled = network.settle(budget)?;
@@ -117,21 +152,23 @@ pub fn is_settled_or_emptied_by<B: Width>(
     ensures enough { IfOk result (λ b. work_of_rules B.whole network.old ≤ budget → IsTrue b) }
     ensures fewer { IfOk result (λ b. ¬ (IsTrue b) → budget + work_of_rules B.whole network.new ≤ work_of_rules B.whole network.old) }
     ensures stops { Any (λ L. L ≡ []) network.old.domains → network.new ≡ network.old }
+    ensures emptied { (network.new.domains ≡ network.old.domains) ⊎ ((count : ℕ) × (count < budget) × IsEmptiedLast network.old.rules count network.old.domains network.new.domains) }
 {
     let settled = network.settle_unless_empty(budget)?;
     Ok(settled == Settled::All || network.has_empty())
 }
 
 /// Narrows within a budget that counts what narrowings look at, and returns whether all is narrowed;
-/// if not, some rule's next narrowing counts for more than is left.
+/// if not, a rule that waits counts for more than is left. What was made counts for no more than the budget.
 pub fn is_settled_within<B: Width>(
     network: &mut Network<B>,
     budget: u64,
 ) -> Result<bool, StoreFault>
     ensures greatest { IfOk result (λ b. IsTrue b → IsGreatestUnder network.old.rules (set_at network.old.domains) (set_at network.new.domains)) }
-    ensures exactly { IfOk result (λ b. IsTrue b ↔ network.new.unsettled ≡ 0) }
+    ensures exactly { IfOk result (λ b. IsTrue b ↔ unsettled_count network.new.settled ≡ 0) }
     ensures stopped { IfOk result (λ b. ¬ (IsTrue b) → (by : List Rule) × (cost : ℕ) × AreRulesCounted network.old.rules by cost network.old.domains network.new.domains
-        × (next : Rule) × Contains network.old.rules next × (budget < cost + cost_of_rule next network.new.domains)) }
+        × (next : Rule) × IsWaiting network.new next × (budget < cost + cost_of_rule next network.new.domains)) }
+    ensures bounded { OnErr result ((by : List Rule) × (cost : ℕ) × AreRulesCounted network.old.rules by cost network.old.domains network.new.domains × (cost ≤ budget)) }
 {
     match network.settle_within(budget)? {
         Settled::All => Ok(true),

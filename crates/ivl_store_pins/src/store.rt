@@ -1,9 +1,10 @@
 //! What the calls of a store mean.
-ghost use Rattle.std.specs.Prelude.{◌≡◌, ◌↔◌, ◌≤◌, ◌+◌, ◌++◌, ◌∷◌, [], false, true, ℕ, ℤ, All, Any, IfOk, IfSome, IsNone, IsTrue, OnErr, OnOk, length};
+ghost use Rattle.std.specs.Prelude.{◌≡◌, ◌↔◌, ◌<◌, ◌≤◌, ◌+◌, ◌-◌, ◌++◌, ◌∷◌, [], false, true, ℕ, ℤ, List, All, Any, IfOk, IfSome, IsNone, IsTrue, OnErr, OnOk, Some, length, slice_set, take};
 ghost use Rattle.ivl_laws.specs.Families.{set_at};
 ghost use Rattle.ivl_laws.specs.Sets.{IsBetween};
+ghost use Rattle.ivl_store.specs.Costs.{cost_of};
 ghost use Rattle.ivl_store.specs.Measure.{total};
-ghost use Rattle.ivl_store.specs.Narrowing.{IsFixed};
+ghost use Rattle.ivl_store.specs.Narrowing.{AllPresent, IsFixed};
 ghost use Rattle.ivl_store.specs.Posts.{AnswersPosts, IsLeftBy, constraints_of};
 ghost use Rattle.ivl_store.specs.Solutions.{AreDistinct, HasSolutionAt, IsCommonSolution, IsGreatestFamily, LostMember, Names};
 
@@ -114,4 +115,51 @@ pub fn empty_of_spares<B: Width>(spares: &mut Spares<B>, alloc: Global) -> Inter
     ensures { result ≡ [] }
 {
     spares.take(alloc)
+}
+
+/// Puts a set in place of a domain: with what is returned there again, the store is as before.
+pub fn swapped<B: Width>(
+    store: &mut Store<B>,
+    variable: usize,
+    set: IntervalSet<B>,
+) -> Option<IntervalSet<B>>
+    requires { variable < length store.old }
+    ensures { (old : List (ℤ × ℤ)) → result ≡ Some old → slice_set store.new variable old ≡ store.old }
+{
+    // its runs are in the range
+    set.in_whole();
+    store.swap(variable, Some(set))
+}
+
+/// Drops the last domain and adds a set: it stands in its place then.
+pub fn with_last<B: Width>(store: &mut Store<B>, set: IntervalSet<B>) -> Result<(), AllocError>
+    ensures replaced { OnOk result (store.new ≡ take (length store.old - 1) store.old ++ set ∷ []) }
+    ensures err { OnErr result (store.new ≡ take (length store.old - 1) store.old) }
+{
+    store.drop_variable();
+    store.add_variable(set)?;
+    Ok(())
+}
+
+/// Puts a set in place of a domain, if there is such a variable.
+pub fn with_in_place<B: Width>(store: &mut Store<B>, variable: usize, set: IntervalSet<B>)
+    ensures { store.new ≡ slice_set store.old variable set }
+{
+    store.replace(variable, set);
+}
+
+/// What narrowing by a constraint counts for.
+pub fn counts_for<B: Width>(store: &Store<B>, constraint: &Constraint) -> u64
+    requires { AllPresent (length store.now) constraint.now }
+    ensures some { 1 ≤ result }
+    ensures cost { result ≡ cost_of constraint.now store.now }
+{
+    store.cost_of(constraint)
+}
+
+/// Makes room for domains, and returns whether there was memory for that. Nothing changes.
+pub fn has_room_for_domains<B: Width>(store: &mut Store<B>, variables: usize) -> bool
+    ensures { store.new ≡ store.old }
+{
+    store.reserve(variables).is_ok()
 }

@@ -1,12 +1,15 @@
 //! Which rules name each variable.
-ghost use Rattle.std.specs.Prelude.{Contains, ◌-◌, ◌≡◌, ◌+◌, ◌<◌, ◌≤◌, ◌∷◌, ◌++◌, [], ℕ, All, IsTrue, List, OnOk, length, ◌↔◌, slice_index_or, slice_set};
+ghost use Rattle.std.specs.Prelude.{Contains, ◌-◌, ◌≡◌, ◌+◌, ◌<◌, ◌≤◌, ◌∷◌, ◌++◌, [], ℕ, All, IsTrue, List, OnOk, length, map, ◌↔◌, slice_index_or, slice_set, unsigned_abs};
 ghost use Rattle.std.specs.Vec.{vec_capacity, vec_len};
 ghost use Rattle.ivl_rules.specs.declared.rules.Rule.{Rule};
 ghost use Rattle.ivl_store.specs.Narrowing.{AllPresent};
 ghost use Rattle.ivl_rules.specs.Rules.{needs_singles};
 ghost use Rattle.ivl_network.specs.Families.{ArePresent};
+ghost use Rattle.ivl_network.specs.Hashes.{AreHashLists, HasHashRoom};
 ghost use Rattle.ivl_network.specs.Queue.{IsLastNamingRule, IsRuleIndex, lasts_of};
+ghost use Rattle.ivl_network.specs.RuleHashes.{hash_of_rule, mixed_with};
 
+use super::hashes::Hashes;
 use super::narrowing::has_two;
 use intervallum::width::Width;
 use ivl_rules::rules::Rule;
@@ -24,6 +27,8 @@ pub(super) struct Index {
     links: Vec<usize>,
     // For each rule, how many variables it alone names, of those that had several members, `Differs` aside.
     leaves: Vec<u8>,
+    // By which a rule is found.
+    hashes: Hashes,
 }
 
 impl Index {
@@ -35,17 +40,20 @@ impl Index {
             single_lasts: Vec::new(alloc),
             links: Vec::new(alloc),
             leaves: Vec::new(alloc),
+            hashes: Hashes::new(alloc),
         }
     }
 
     /// Reserves room for so many more variables and rules.
     pub(super) fn reserve(&mut self, variables: usize, rules: usize) -> Result<(), AllocError>
+        requires { AreHashLists self.old.hashes }
         ensures same { (count : ℕ) (cs : List Rule) → IsRuleIndex count cs self.old → IsRuleIndex count cs self.new }
     {
         self.lasts.reserve(variables)?;
         self.single_lasts.reserve(variables)?;
         self.links.reserve(rules.saturating_mul(4))?;
         self.leaves.reserve(rules)?;
+        self.hashes.reserve(rules)?;
         Ok(())
     }
 
@@ -80,12 +88,16 @@ impl Index {
 
     /// Reserves room for one more rule.
     pub(super) fn reserve_rule(&mut self) -> Result<(), AllocError>
+        requires { AreHashLists self.old.hashes }
         ensures same { (count : ℕ) (rules : List Rule) → IsRuleIndex count rules self.old → IsRuleIndex count rules self.new }
         ensures room { OnOk result (vec_len self.new.links + 4 ≤ vec_capacity self.new.links) }
         ensures leaf_room { OnOk result (vec_len self.new.leaves < vec_capacity self.new.leaves) }
+        ensures hash_room { OnOk result (HasHashRoom self.new.hashes) }
+        ensures lists { AreHashLists self.new.hashes }
     {
         self.links.reserve(4)?;
         self.leaves.reserve(1)?;
+        self.hashes.reserve(1)?;
         Ok(())
     }
 
@@ -95,6 +107,7 @@ impl Index {
         requires room { vec_len self.old.leaves < vec_capacity self.old.leaves }
         ensures same { (count : ℕ) (rules : List Rule) → IsRuleIndex count rules self.old → IsRuleIndex count rules self.new }
         ensures links { self.new.links ≡ self.old.links }
+        ensures hashes { self.new.hashes ≡ self.old.hashes }
     {
         if rule.needs_single_numbers() {
             self.leaves.push_reserved(0);
@@ -120,9 +133,12 @@ impl Index {
     /// Adds a rule after the others.
     pub(super) fn push_rule(&mut self, rule: &Rule)
         requires room { vec_len self.old.links + 4 ≤ vec_capacity self.old.links }
+        requires hash_room { HasHashRoom self.old.hashes }
+        requires lists { AreHashLists self.old.hashes }
         requires present { ArePresent (length (lasts_of (needs_singles rule.now) self.old)) rule.now }
         ensures { (count : ℕ) (rules : List Rule) → IsRuleIndex count rules self.old → IsRuleIndex count (rules ++ rule.now ∷ []) self.new }
     {
+        self.hashes.push(hash_of(rule));
         let c = rule.places();
         let start = self.links.len();
         if rule.needs_single_numbers() {
@@ -136,7 +152,8 @@ impl Index {
 
     /// Drops the last rule.
     pub(super) fn pop_rule(&mut self, rule: &Rule)
-        requires { ArePresent (length (lasts_of (needs_singles rule.now) self.old)) rule.now }
+        requires lists { AreHashLists self.old.hashes }
+        requires present { ArePresent (length (lasts_of (needs_singles rule.now) self.old)) rule.now }
         ensures { (count : ℕ) (rules : List Rule) → IsRuleIndex count (rules ++ rule.now ∷ []) self.old → IsRuleIndex count rules self.new }
     {
         let count = self.links.len();
@@ -144,6 +161,7 @@ impl Index {
             return;
         }
         let _ = self.leaves.pop();
+        self.hashes.pop();
         let start = count - 4;
         let x = self.links[start + 1];
         let y = self.links[start + 2];
@@ -178,21 +196,46 @@ impl Index {
         self.links[place]
     }
 
-    /// Whether a rule is one of the list: a walk over those of its kind that name its last variable.
+    /// Whether a rule is one of the list: a walk over those in the bucket of its hash.
     pub(super) fn has(&self, rules: &[Rule], rule: &Rule) -> bool
-        requires { (count : ℕ) × IsRuleIndex count rules.now self.now }
+        requires lists { AreHashLists self.now.hashes }
+        requires hashes { self.now.hashes.hashes.items ≡ map hash_of_rule rules.now }
         ensures { IsTrue result ↔ Contains rules.now rule.now }
     {
-        let variable = rule.places().z;
-        let mut place = self.last(rule.needs_single_numbers(), variable);
+        let mut place = self.hashes.last(hash_of(rule));
         while place > 0 {
-            if is_same(&rules[place / 4], rule) {
+            if is_same(&rules[place - 1], rule) {
                 return true;
             }
-            place = self.before(place);
+            place = self.hashes.before(place);
         }
         false
     }
+}
+
+/// A hash of a rule, from its kind and what it holds.
+fn hash_of(rule: &Rule) -> u64
+    ensures { result ≡ hash_of_rule rule.now }
+{
+    match rule {
+        Rule::Sum(c) => mixed(mixed(mixed(1, c.x as u64), c.y as u64), c.z as u64),
+        Rule::Shifted { x, y, by } => hash_of_two(2, *x, *y, *by),
+        Rule::AtMost { x, y, by } => hash_of_two(3, *x, *y, *by),
+        Rule::Differs { x, y, by } => hash_of_two(4, *x, *y, *by),
+    }
+}
+
+fn hash_of_two(kind: u64, x: usize, y: usize, by: i64) -> u64
+    ensures { result ≡ mixed_with (mixed_with (mixed_with kind x) y) (unsigned_abs by) }
+{
+    mixed(mixed(mixed(kind, x as u64), y as u64), by.unsigned_abs())
+}
+
+/// A hash with one more number.
+fn mixed(hash: u64, word: u64) -> u64
+    ensures { result ≡ mixed_with hash word }
+{
+    hash.wrapping_mul(0x9E37_79B9_7F4A_7C15).wrapping_add(word)
 }
 
 /// Adds a 0 and the places that stand at three variables.

@@ -3,6 +3,7 @@ ghost use Rattle.std.specs.Prelude.{◌≡◌, ◌↔◌, ◌⊎◌, ◌<◌, �
 ghost use Rattle.std.specs.Vec.{vec_capacity, vec_len};
 ghost use Rattle.ivl_laws.specs.Families.{set_at};
 ghost use Rattle.ivl_laws.specs.Runs.{IsRunListIn};
+ghost use Rattle.ivl_laws.specs.Sets.{IsSubset};
 ghost use Rattle.ivl_store.specs.Narrowing.{AllPresent};
 ghost use Rattle.ivl_store.specs.Settled.{AreLost, any_lost};
 ghost use Rattle.ivl_rules.specs.declared.rules.Rule.{Rule};
@@ -81,6 +82,7 @@ pub(super) fn restrict_logged<B: Width, A: Allowed<B>>(
     ensures kept_count { length store.new ≡ length store.old }
     ensures cut { OnOk result ((j : ℕ) (v : ℤ) → set_at store.new j v ↔ (set_at store.old j v × (j ≡ i → A.members allowed.now v))) }
     ensures lost { IfOk result (λ lost. lost ≡ false → store.new ≡ store.old) }
+    ensures kept { IfOk result (λ lost. IsSubset (set_at store.old i) (A.members allowed.now) → lost ≡ false) }
     ensures past { OnOk result ((rules : List Rule) → KeepsPast marks.now trail.old.items trail.new.items store.old store.new rules) }
 {
     let left = allowed.left_of(&store.domains()[i], spares)?;

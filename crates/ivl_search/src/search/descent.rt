@@ -4,6 +4,7 @@ ghost use Rattle.ivl_laws.specs.Families.{set_at};
 ghost use Rattle.ivl_laws.specs.Sets.{IsBetween};
 ghost use Rattle.ivl_network.specs.Network.{IsCutAt};
 ghost use Rattle.ivl_network.specs.Families.{ArePresent};
+ghost use Rattle.ivl_network.specs.Queue.{unsettled_count};
 ghost use Rattle.ivl_search.specs.Best.{IsBetter};
 ghost use Rattle.ivl_search.specs.Budget.{nodes_enough};
 ghost use Rattle.ivl_search.specs.Nodes.{AreSingle, IsOnlyPoint};
@@ -91,7 +92,7 @@ fn go_back<B: Width>(
     ensures back { IfOk result (λ b. b ≡ true → (cut : Cut B) × (path.old.items ≡ path.new.items ++ cut ∷ []) × (network.new.marked ≡ take cut.mark network.old.marked)
         × HoldsAt (λ past. (network.new.rules ≡ past.rules) × (length network.new.domains ≡ length past.domains)
         × IsCutAt cut.variable (λ v. IsBetter wanted v (B.value cut.value)) (set_at past.domains) (set_at network.new.domains)) network.old.marked cut.mark) }
-    ensures unsettled { IfOk result (λ b. b ≡ true → network.new.unsettled ≤ length network.new.rules) }
+    ensures unsettled { IfOk result (λ b. b ≡ true → unsettled_count network.new.settled ≤ length network.new.rules) }
 {
     match path.pop() {
         Some(cut) => {

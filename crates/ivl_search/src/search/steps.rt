@@ -7,6 +7,7 @@ ghost use Rattle.ivl_laws.specs.Sets.{IsBetween};
 ghost use Rattle.ivl_network.specs.Network.{IsCutAt, work_of_rules};
 ghost use Rattle.ivl_store.specs.Solutions.{LiesWithin};
 ghost use Rattle.ivl_network.specs.Families.{AllSupport, ArePresent};
+ghost use Rattle.ivl_network.specs.Queue.{unsettled_count};
 ghost use Rattle.ivl_search.specs.Best.{IsAsGood, IsBetter, IsInPart};
 ghost use Rattle.ivl_search.specs.Nodes.{AreSingle, IsNodeOf, IsOnlyPoint};
 ghost use Rattle.ivl_search.specs.Points.{SolvesRules};
@@ -35,7 +36,7 @@ pub(super) fn advance<B: Width>(
     ensures supported { IfOk result (λ node. node ≡ Node.Leaf → AllSupport network.old.rules (set_at network.new.domains)) }
     ensures fewer { IfOk result (λ node. node ≡ Node.Unsettled → 500 + work_of_rules B.whole network.new ≤ work_of_rules B.whole network.old) }
     ensures runs { All (IsRunListIn B.whole) network.new.domains }
-    ensures unsettled { (network.old.unsettled ≤ length network.old.rules) × (network.new.unsettled ≤ length network.old.rules) }
+    ensures unsettled { (unsettled_count network.old.settled ≤ length network.old.rules) × (unsettled_count network.new.settled ≤ length network.old.rules) }
 {
     // for the prover: no more rules are unsettled than there are, before and after
     network.rules();
@@ -78,7 +79,7 @@ pub(super) fn enter<B: Width>(
     ensures kept_count { OnOk result (length network.new.domains ≡ length network.old.domains) }
     ensures cut { OnOk result (IsCutAt variable (IsAsGood wanted (B.value value)) (set_at network.old.domains) (set_at network.new.domains)) }
     ensures runs { OnOk result (All (IsRunListIn B.whole) network.new.domains) }
-    ensures unsettled { OnOk result (network.new.unsettled ≤ length network.new.rules) }
+    ensures unsettled { OnOk result (unsettled_count network.new.settled ≤ length network.new.rules) }
 {
     let mark = network.mark()?;
     keep_part(network, variable, value, wanted, Part::AsGood)?;
@@ -100,7 +101,7 @@ pub(super) fn leave<B: Width>(
     ensures marked { OnOk result (network.new.marked ≡ take cut.mark network.old.marked) }
     ensures cut { OnOk result (HoldsAt (λ past. (network.new.rules ≡ past.rules) × (length network.new.domains ≡ length past.domains)
         × IsCutAt cut.variable (λ v. IsBetter wanted v (B.value cut.value)) (set_at past.domains) (set_at network.new.domains)) network.old.marked cut.mark) }
-    ensures unsettled { OnOk result (network.new.unsettled ≤ length network.new.rules) }
+    ensures unsettled { OnOk result (unsettled_count network.new.settled ≤ length network.new.rules) }
 {
     network.undo_to(cut.mark);
     keep_part(network, cut.variable, cut.value, wanted, Part::Worse)?;
@@ -121,7 +122,7 @@ pub(super) fn keep_part<B: Width>(
     ensures kept_count { OnOk result (length network.new.domains ≡ length network.old.domains) }
     ensures cut { OnOk result (IsCutAt variable (IsInPart wanted part (B.value value)) (set_at network.old.domains) (set_at network.new.domains)) }
     ensures runs { OnOk result (All (IsRunListIn B.whole) network.new.domains) }
-    ensures unsettled { OnOk result (network.new.unsettled ≤ length network.new.rules) }
+    ensures unsettled { OnOk result (unsettled_count network.new.settled ≤ length network.new.rules) }
 {
     let allowed = part_of(value, wanted, part);
     // for the prover: the domains are lists of runs within the range

@@ -1,8 +1,10 @@
-use Rattle.std.proofs.Common.{◌∙◌, ap, subst}
+use Rattle.std.proofs.Common.{◌≡◌, ◌∙◌, ap, false, refl, subst, sym}
 use Rattle.ivl_laws.specs.Families.{set_at}
+use Rattle.ivl_laws.specs.Sets.{IsSubset}
 use Rattle.ivl_network.specs.Network.{IsCutAt, IsSoundRules, RulesState}
 use Rattle.ivl_network.specs.Trail.{KeepsPast}
 use Rattle.ivl_network.proofs.Indexes.{index_of_count}
+use Rattle.ivl_network.proofs.Logging.{state_is}
 use Rattle.ivl_network.proofs.Marks.{marks_same}
 use Rattle.ivl_network.proofs.Narrowings.{sound_moved}
 use Rattle.ivl_network.proofs.Settled.{settled_cut}
@@ -42,3 +44,13 @@ returns-clause-marked g c =
 pub returns-clause-cut : goal.returns-clause-cut
 returns-clause-cut g c =
     subst (λ (s : RulesState). IsCutAt c.args.variable (g.A.Allowed.members c.args.allowed.now) (set_at s.domains) (set_at c.restrict_logged.new.store)) c.self.view_is c.in_ok-lost.ensures.cut
+
+pub returns-clause-same : goal.returns-clause-same
+returns-clause-same g c = λ within.
+    let i = c.self.inside in
+    let cs = i.rules.items in
+    let none : c.in_ok-lost.lost ≡ false = c.in_ok-lost.ensures.kept (subst (λ (s : RulesState). IsSubset (set_at s.domains c.args.variable) (g.A.Allowed.members c.args.allowed.now)) (sym c.self.view_is) within) in
+    let was : KeepsPast i.marks.items i.trail.items c.restrict_logged.new.trail.items i.store c.restrict_logged.new.store cs =
+    subst (λ t. KeepsPast i.marks.items t c.restrict_logged.new.trail.items i.store c.restrict_logged.new.store cs) c.reserve_changes.ensures.same
+    (subst (λ ms. KeepsPast ms c.reserve_changes.new.trail.items c.restrict_logged.new.trail.items i.store c.restrict_logged.new.store cs) c.deref-2.ensures.value (c.in_ok-lost.ensures.past cs)) in
+    state_is _ _ _ _ _ _ _ _ (c.in_ok-lost.ensures.lost none) refl (c.wake.ensures.cleared.kept none) (was.marked c.self.invariant.1 c.self.invariant.0.present) ∙ c.self.view_is

@@ -38,7 +38,7 @@ returns-clause-marked g c =
     let n : c.len.result ≡ length i.trail.items = (let e = c.len.ensures in let o = c.reserve_changes.new.trail.ok.0 in let s = ap length c.reserve_changes.ensures.same in omega (arith, e, o, s)) in
     rw c.reserve_changes.ensures.same (
     state_is _ _ _ _ _ _ _ _ (ap (λ (s : RulesState). s.domains) c.self.view_is) (ap (λ (s : RulesState). s.rules) c.self.view_is)
-    (ap (λ (s : RulesState). s.unsettled) c.self.view_is)
+    (ap (λ (s : RulesState). s.settled) c.self.view_is)
     (one_more_past i.marks.items c.push.new.self.items i.trail.items _ c.len.result n c.in_ok-push.ensures.items
     ∙ ap (λ (s : RulesState). s.marked ++ (record { domains = s.domains; rules = s.rules }) ∷ []) c.self.view_is)
     )

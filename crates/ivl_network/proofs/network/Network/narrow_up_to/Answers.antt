@@ -1,7 +1,8 @@
-use Rattle.std.proofs.Common.{◌≡◌, ◌∙◌, [], arith, subst, sym}
+use Rattle.std.proofs.Common.{◌≡◌, ◌∙◌, ◌⊎◌, ◌<◌, ℕ, [], arith, inr, subst, sym}
 use Rattle.std.specs.Prelude.{Any}
 use Rattle.std.proofs.lemmas.Bool.{false≢true}
-use Rattle.ivl_network.specs.Network.{RulesState}
+use Rattle.ivl_laws.specs.Families.{set_at}
+use Rattle.ivl_network.specs.Network.{AreRuleNarrowings, IsEmptiedLast, RulesState}
 use Rattle.ivl_network.proofs.Narrowings.{narrowed_more}
 use Rattle.ivl_network.proofs.network.Network.narrow_up_to.Goals.{else-stops_at_empty-via-then-stops_at_empty+else-has_empty, else-stops_at_empty-via-else-stops_at_empty}
 use Rattle.ivl_network.proofs.network.Network.narrow_up_to.Goals as goal
@@ -19,4 +20,29 @@ loop-preserved g c = (
         false≢true (sym w.if-has_empty.false ∙ w.has_empty.ensures.empty.1 (subst (λ (s : RulesState). Any (λ L. L ≡ []) s.domains) (sym (c.loop.invariant.5 stops empty)) empty))
     | else-stops_at_empty-via-else-stops_at_empty w ↦ false≢true (sym w.if-stops_at_empty.false ∙ stops)
   ])),
+  (λ stops. inr (
+    c.loop.counter,
+    (let b = c.loop-test.true in omega arith),
+    record {
+      filled = c.loop.self.domains;
+      none_empty = (λ empty. elim c.else-stops_at_empty.branch [
+        | else-stops_at_empty-via-then-stops_at_empty+else-has_empty w ↦ false≢true (sym w.if-has_empty.false ∙ w.has_empty.ensures.empty.1 empty)
+        | else-stops_at_empty-via-else-stops_at_empty w ↦ false≢true (sym w.if-stops_at_empty.false ∙ stops)
+      ]);
+      first = c.loop.invariant.4.narrowings;
+      last = subst (λ cs. AreRuleNarrowings cs 1 (set_at c.loop.self.domains) (set_at c.narrow_next.new.self.domains)) c.loop.invariant.0 (c.in_ok-narrow_next.ensures.narrowed c.if-not-branch.false);
+    },
+  )),
 )
+
+pub returns-in_err-narrow_next-clause-emptied : goal.returns-in_err-narrow_next-clause-emptied
+returns-in_err-narrow_next-clause-emptied g c = λ stops.
+    let old = c.args.self.now in
+    subst (λ (s : RulesState). (s.domains ≡ old.domains) ⊎ ((count : ℕ) × (count < c.args.budget) × IsEmptiedLast old.rules count old.domains s.domains))
+    (sym c.in_err-narrow_next.ensures.refused) (c.loop.invariant.6 stops)
+
+pub returns-then-not-branch-clause-emptied : goal.returns-then-not-branch-clause-emptied
+returns-then-not-branch-clause-emptied g c = λ stops.
+    let old = c.args.self.now in
+    subst (λ (s : RulesState). (s.domains ≡ old.domains) ⊎ ((count : ℕ) × (count < c.args.budget) × IsEmptiedLast old.rules count old.domains s.domains))
+    (sym (c.in_ok-narrow_next.ensures.none c.if-not-branch.true).0) (c.loop.invariant.6 stops)

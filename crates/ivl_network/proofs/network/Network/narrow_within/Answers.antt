@@ -1,12 +1,12 @@
 use Rattle.std.proofs.Common.{◌≡◌, ◌↔◌, ◌∙◌, ◌∷◌, ◌+◌, ◌<◌, ◌≤◌, Bool, List, ap, arith, [], false, length, refl, rules, set, subst, sym, true, ℕ}
 use Rattle.std.proofs.lemmas.List.{get_or_default}
-use Rattle.std.specs.Prelude.{ℤ, All, Contains}
+use Rattle.std.specs.Prelude.{ℤ, All}
 use Rattle.ivl_laws.specs.Families.{set_at}
 use Rattle.ivl_rules.specs.declared.rules.Rule.{Rule}
 use Rattle.ivl_network.specs.Costs.{AreRulesCounted, cost_of_rule}
 use Rattle.ivl_network.specs.Families.{ArePresent, IsFixedBy}
 use Rattle.ivl_rules.specs.Rules.{NarrowedBy, places}
-use Rattle.ivl_network.specs.Network.{AreRuleNarrowings, IsSoundRules, RulesState, work_of_rules}
+use Rattle.ivl_network.specs.Network.{AreRuleNarrowings, IsSoundRules, IsWaiting, RulesState, work_of_rules}
 use Rattle.ivl_network.specs.Queue.{unsettled_count}
 use Rattle.ivl_store.specs.Narrowing.{AllPresent}
 use Rattle.ivl_store.specs.Settled.{AreLost, any_lost}
@@ -35,7 +35,7 @@ pub returns-clause-fewer : goal.returns-clause-fewer
 returns-clause-fewer g c = λ _ _.
     let inside = c.self.inside in
     let flags = inside.queue.settled.items in
-    subst (λ (s : RulesState). 1 + work_of_rules g.B.Width.whole (record { domains = c.narrow_logged.new.store; rules = inside.rules.items; unsettled = unsettled_count c.settle.new.self.settled.items; marked = [] }) ≤ work_of_rules g.B.Width.whole s) c.self.view_is
+    subst (λ (s : RulesState). 1 + work_of_rules g.B.Width.whole (record { domains = c.narrow_logged.new.store; rules = inside.rules.items; settled = c.settle.new.self.settled.items; marked = [] }) ≤ work_of_rules g.B.Width.whole s) c.self.view_is
     (work_less g.B.Width.whole inside.store c.narrow_logged.new.store (length inside.rules.items) flags c.settle.new.self.settled.items c.in-Some.i (any_lost c.in_ok-lost.lost) c.in-Some.ensures.first.0 c.in-Some.ensures.first.1
     (c.settle.ensures.count ∙ ap length c.deref-3.ensures.value) c.in_ok-lost.ensures.same (λ none. c.settle.ensures.alone none ∙ ap (λ (ms : List Bool). set ms c.in-Some.i true) c.first.ensures.settled)
     (λ t. total_falls g.B.Width.whole inside.store c.narrow_logged.new.store c.in_ok-lost.ensures.range c.narrow_logged.ensures.kept_count (λ i v h. ((c.in_ok-lost.ensures.narrowed i v).0 h).kept)
@@ -94,9 +94,9 @@ returns-then-cost-left-clause-costly g c = λ _.
     let lt : c.in-Some.i < length cs = (let a = c.in-Some.ensures.first.0 in let b = c.self.invariant.0.settled.one_each in omega (arith, a, b)) in
     let above = c.if-cost-left.true in
     let cost = c.cost_if-cost.ensures.cost (is_counted c.args.is_counted _ c.args.left c.cost_if-cost.ensures.none above) c.index-rule.result.now c.places-c.ensures in (
-      state_is _ _ _ _ _ _ _ _ refl refl (ap unsettled_count c.first.ensures.settled) refl ∙ c.self.view_is,
+      state_is _ _ _ _ _ _ _ _ refl refl c.first.ensures.settled refl ∙ c.self.view_is,
       c.index-rule.result.now,
-      subst (λ (s : RulesState). Contains s.rules c.index-rule.result.now) c.self.view_is (c.in-Some.i, lt, sym c.index-rule.ensures),
+      subst (λ (s : RulesState). IsWaiting s c.index-rule.result.now) c.self.view_is (c.in-Some.i, lt, sym c.index-rule.ensures, sym (get_or_default c.self.inside.queue.settled.items c.in-Some.i false true c.in-Some.ensures.first.0) ∙ c.in-Some.ensures.first.1),
       subst (λ (s : RulesState). c.args.left < cost_of_rule c.index-rule.result.now s.domains) c.self.view_is (omega (arith, above, cost)),
     )
   where
@@ -112,11 +112,11 @@ cost_if-cost-requires g c =
     subst (AllPresent (length c.self.inside.store)) (sym c.places-c.ensures) (subst (ArePresent (length c.self.inside.store)) (sym c.index-rule.ensures) (c.self.invariant.0.present c.in-Some.i c.index-rule.result.now lt))
 
 pub returns-in_default-clause-done : goal.returns-in_default-clause-done
-returns-in_default-clause-done g c = ((λ _. ap (λ (s : RulesState). s.unsettled) (sym c.self.view_is) ∙ c.first.ensures.none.0 (search rules)), (λ _. refl))
+returns-in_default-clause-done g c = ((λ _. ap (λ (s : RulesState). unsettled_count s.settled) (sym c.self.view_is) ∙ c.first.ensures.none.0 (search rules)), (λ _. refl))
 
 pub returns-in_default-clause-none : goal.returns-in_default-clause-none
 returns-in_default-clause-none g c = λ _. (
-  state_is _ _ _ _ _ _ _ _ refl refl (ap unsettled_count c.first.ensures.settled) refl ∙ c.self.view_is,
+  state_is _ _ _ _ _ _ _ _ refl refl c.first.ensures.settled refl ∙ c.self.view_is,
   subst (λ (s : RulesState). All (IsFixedBy (set_at s.domains)) s.rules) c.self.view_is
       (all_fixed c.self.inside.rules.items c.self.inside.queue.settled.items (set_at c.self.inside.store) c.self.invariant.0.settled c.in_default.ensures.first),
 )

@@ -1,9 +1,8 @@
-use Rattle.std.proofs.Common.{◌≡◌, ◌∙◌, ◌+◌, ap, cond, false, length, subst, sym, Bool, List, ◌∷◌, ◌++◌, [], refl}
-use Rattle.std.specs.Prelude.{not}
-use Rattle.std.proofs.lemmas.List.Sums.{sum_by_push}
+use Rattle.std.proofs.Common.{◌≡◌, ◌∙◌, ap, false, length, subst, sym, Bool, List, ◌∷◌, ◌++◌, [], refl}
 use Rattle.ivl_network.specs.Families.{ArePresent}
+use Rattle.ivl_network.specs.Hashes.{AreHashLists, HasHashRoom}
 use Rattle.ivl_network.specs.Network.{IsSoundRules, RulesState}
-use Rattle.ivl_network.specs.Queue.{IsRuleIndex, unsettled_count}
+use Rattle.ivl_network.specs.Queue.{IsRuleIndex}
 use Rattle.ivl_network.specs.declared.network.change.Change.TheVariants.{Require}
 use Rattle.ivl_network.proofs.Logging.{logged, logged_marks, state_is}
 use Rattle.ivl_network.proofs.Narrowings.{sound_pushed}
@@ -74,8 +73,17 @@ returns-clause-added g c =
     let added : c.push_reserved.new.self.items ≡ i.rules.items ++ c.args.rule ∷ [] = c.push_reserved.ensures.items ∙ ap (λ l. l ++ c.args.rule ∷ []) c.reserve.ensures.items in
     state_is _ _ _ _ _ _ _ _ (ap (λ (s : RulesState). s.domains) c.self.view_is)
     (added ∙ ap (λ (s : RulesState). s.rules ++ c.args.rule ∷ []) c.self.view_is)
-    (ap unsettled_count c.in_ok-push.ensures.added ∙ sum_by_push (λ (b : Bool). cond (not b) 1 0) i.queue.settled.items false ∙ ap (λ (s : RulesState). s.unsettled + 1) c.self.view_is)
+    (c.in_ok-push.ensures.added ∙ ap (λ (s : RulesState). s.settled ++ false ∷ []) c.self.view_is)
     (logged_marks i.marks.items i.trail.items c.reserve_changes.new.trail.items c.log_change.new.trail.items _ _ _ _ c.self.invariant.1
     c.reserve_changes.ensures.same c.log_change.ensures (reverts_rule {B = g.row.B.Denot} {O = g.row.B-Output.Denot} Require i.store i.rules.items c.push_reserved.new.self.items c.args.rule refl added)
     (λ f. sym c.deref.ensures.value ∙ c.is_logging-is_kept.ensures f)
     ∙ ap (λ (s : RulesState). s.marked) c.self.view_is)
+
+pub reserve_rule-requires : goal.reserve_rule-requires
+reserve_rule-requires g c = c.self.invariant.2.known.0
+
+pub push_rule-requires-clause-lists : goal.push_rule-requires-clause-lists
+push_rule-requires-clause-lists g c = subst AreHashLists (sym c.push_leaves.ensures.hashes) c.reserve_rule.ensures.lists
+
+pub push_rule-requires-clause-hash_room : goal.push_rule-requires-clause-hash_room
+push_rule-requires-clause-hash_room g c = subst HasHashRoom (sym c.push_leaves.ensures.hashes) c.in_ok-reserve_rule.ensures.hash_room

@@ -24,3 +24,6 @@ invariant_of-self-2 g c =
     let was = c.self.invariant in
     let sound = subst (IsSoundRules c.self.inside.store c.self.inside.rules.items) (sym c.reserve-4.ensures.settled) was.0 in
     rw (c.reserve-3.ensures.items, c.reserve-5.ensures.same) (sound, was.1, c.reserve-2.ensures.same _ _ was.2, c.reserve-4.ensures.queue, was.4)
+
+pub reserve-requires-2 : goal.reserve-requires-2
+reserve-requires-2 g c = c.self.invariant.2.known.0

@@ -4,6 +4,7 @@ use Rattle.ivl_laws.specs.Families.{set_at}
 use Rattle.ivl_store.specs.Measure.{total}
 use Rattle.ivl_network.specs.Families.{IsFixedBy}
 use Rattle.ivl_network.specs.Network.{work_of_rules}
+use Rattle.ivl_network.specs.Queue.{unsettled_count}
 use Rattle.ivl_network.proofs.Budgets.{fewer_or, made_before, settled_or, spent_or, without}
 use Rattle.ivl_network.proofs.Narrowings.{narrowings_greatest, narrowings_keep, narrowings_solve}
 use Rattle.ivl_network.proofs.network.Network.settle.Goals as goal
@@ -41,16 +42,16 @@ returns-clause-greatest g c = λ all.
 pub returns-clause-made : goal.returns-clause-made
 returns-clause-made g c =
     let h = c.in_ok-narrow_up_to.ensures.made in
-    (h.0, h.2, (λ left. without (spent_or c.narrow_up_to.new.self.unsettled h.0 c.args.budget h.3 (λ none. let all = c.reached.ensures.exactly.1 none in absurd (cc)))), h.1.narrowings)
+    (h.0, h.2, (λ left. without (spent_or (unsettled_count c.narrow_up_to.new.self.settled) h.0 c.args.budget h.3 (λ none. let all = c.reached.ensures.exactly.1 none in absurd (cc)))), h.1.narrowings)
 
 pub returns-clause-fewer : goal.returns-clause-fewer
 returns-clause-fewer g c = λ left.
     let h = c.in_ok-narrow_up_to.ensures.made in
     without (fewer_or h.0 c.args.budget (work_of_rules g.B.Width.whole c.narrow_up_to.new.self) (work_of_rules g.B.Width.whole c.args.self.now) h.1.fewer
-    (spent_or c.narrow_up_to.new.self.unsettled h.0 c.args.budget h.3 (λ none. let all = c.reached.ensures.exactly.1 none in absurd (cc))))
+    (spent_or (unsettled_count c.narrow_up_to.new.self.settled) h.0 c.args.budget h.3 (λ none. let all = c.reached.ensures.exactly.1 none in absurd (cc))))
 
 pub returns-clause-enough : goal.returns-clause-enough
 returns-clause-enough g c = λ enough.
     let h = c.in_ok-narrow_up_to.ensures.made in
     let new = c.narrow_up_to.new.self in
-    c.reached.ensures.exactly.1 (without (settled_or (total g.B.Width.whole new.domains * (length new.rules + 1)) new.unsettled h.0 c.args.budget (work_of_rules g.B.Width.whole c.args.self.now) h.3 h.1.fewer enough))
+    c.reached.ensures.exactly.1 (without (settled_or (total g.B.Width.whole new.domains * (length new.rules + 1)) (unsettled_count new.settled) h.0 c.args.budget (work_of_rules g.B.Width.whole c.args.self.now) h.3 h.1.fewer enough))

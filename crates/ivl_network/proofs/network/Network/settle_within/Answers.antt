@@ -1,10 +1,10 @@
 use Rattle.std.proofs.Common.{◌+◌, ◌<◌, arith, length, subst, sym, refl}
-use Rattle.std.specs.Prelude.{All, Contains}
+use Rattle.std.specs.Prelude.{All}
 use Rattle.ivl_laws.specs.Families.{set_at}
 use Rattle.ivl_network.specs.Costs.{cost_of_rule}
 use Rattle.ivl_network.specs.Families.{IsFixedBy}
-use Rattle.ivl_network.specs.Network.{RulesState}
-use Rattle.ivl_network.proofs.Budgets.{made_more, made_none, made_same}
+use Rattle.ivl_network.specs.Network.{IsWaiting, RulesState}
+use Rattle.ivl_network.proofs.Budgets.{made_more, made_none, made_same, within_before}
 use Rattle.ivl_network.proofs.Narrowings.{narrowings_greatest, narrowings_keep, narrowings_solve}
 use Rattle.ivl_network.proofs.network.Network.settle_within.Goals as goal
 
@@ -66,7 +66,7 @@ returns-in-Costly-clause-made g c =
       omega (arith, spent),
       (λ _. (
         costly.1,
-        subst (λ cs. Contains cs costly.1) c.loop-cost.invariant.rules costly.2,
+        subst (λ (s : RulesState). IsWaiting s costly.1) (sym costly.0) costly.2,
         subst (λ (s : RulesState). c.args.budget < h.cost + cost_of_rule costly.1 s.domains) (sym costly.0) (let less = costly.3 in omega (arith, spent, less)),
       )),
       h.fewer,
@@ -79,3 +79,8 @@ loop-cost-preserved g c =
     made_more g.B.Width.whole c.args.budget c.loop-cost.left _ c.args.self.now c.loop-cost.self c.narrow_within.new.self k.2 cost c.loop-cost.invariant
     c.narrow_within.ensures.rules c.narrow_within.ensures.kept_count c.narrow_within.ensures.marked k.1 refl k.3
     (c.in_ok-narrow_within.ensures.narrowed cost c.in-Made.is) (c.in_ok-narrow_within.ensures.fewer cost c.in-Made.is)
+
+pub returns-in_err-narrow_within-clause-made_before : goal.returns-in_err-narrow_within-clause-made_before
+returns-in_err-narrow_within-clause-made_before g c =
+    let h = made_same g.B.Width.whole c.args.budget c.loop-cost.left c.args.self.now c.loop-cost.self c.narrow_within.new.self c.in_err-narrow_within.ensures.refused c.loop-cost.invariant in
+    within_before c.from_residual.result g.B.Width.whole c.args.budget c.loop-cost.left c.args.self.now c.narrow_within.new.self h

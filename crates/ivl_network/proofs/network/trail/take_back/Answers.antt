@@ -36,8 +36,11 @@ returns-in-Variable-clause-index g c =
     (c.pop_variable.ensures (length c.args.store.now) c.args.rules.now.items c.requires.index
     (subst (λ m. All (ArePresent m) c.args.rules.now.items) e (rw c.in-Variable.is at c.requires.present)))
 
-pub pop_rule-requires : goal.pop_rule-requires
-pop_rule-requires g c = present_last (length c.args.store.now) c.args.rules.now.items c.pop.new.self.items _ c.args.index.now c.in-Some.ensures.items c.requires.sound.present c.requires.index
+pub pop_rule-requires-clause-lists : goal.pop_rule-requires-clause-lists
+pop_rule-requires-clause-lists g c = c.requires.index.known.0
+
+pub pop_rule-requires-clause-present : goal.pop_rule-requires-clause-present
+pop_rule-requires-clause-present g c = present_last (length c.args.store.now) c.args.rules.now.items c.pop.new.self.items _ c.args.index.now c.in-Some.ensures.items c.requires.sound.present c.requires.index
 
 pub returns-in-Some-clause-index : goal.returns-in-Some-clause-index
 returns-in-Some-clause-index g c =

@@ -4,6 +4,7 @@ use Rattle.std.proofs.lemmas.List.{append-nil, append_assoc, length_push, length
 use Rattle.ivl_laws.specs.Families.{set_at}
 use Rattle.ivl_network.specs.Network.{IsCutAt}
 use Rattle.ivl_network.specs.Families.{AllSupport, ArePresent}
+use Rattle.ivl_network.specs.Queue.{unsettled_count}
 use Rattle.ivl_network.specs.Trail.{RulesPast}
 use Rattle.ivl_search.specs.Best.{IsAsGood}
 use Rattle.ivl_search.specs.Budget.{points_of}
@@ -23,7 +24,7 @@ loop-left-init g c =
     let whole = g.B.Width.whole in
     let none = c.new-path.ensures.items in
     let unsettled = c.rules.ensures.unsettled in
-    let room = root_room (length start.rules) start.unsettled (points_of whole start.domains) unsettled in record {
+    let room = root_room (length start.rules) (unsettled_count start.settled) (points_of whole start.domains) unsettled in record {
       rules = refl;
       kept_count = refl;
       nodes = omega arith;
@@ -54,11 +55,11 @@ loop-left-preserved-in-Unsettled g c =
     let sets = c.advance.new.network.domains in
     let same = subst (λ cs. (point : List ℤ) → SolvesRules cs before point ↔ SolvesRules cs sets point) v.rules c.advance.ensures.same in
     let nodes = v.nodes in
-    let unsettled = subst (λ cs. c.advance.new.network.unsettled ≤ length cs) v.rules c.advance.ensures.unsettled.1 in
+    let unsettled = subst (λ cs. (unsettled_count c.advance.new.network.settled) ≤ length cs) v.rules c.advance.ensures.unsettled.1 in
     let filled = subst (IsNodeOf value c.args.wanted whole sets) c.in-Unsettled.is c.in_ok-advance.ensures.node in
-    let fewer = same_work whole before sets c.loop-left.network.rules c.advance.new.network.rules cs c.loop-left.network.unsettled c.advance.new.network.unsettled
+    let fewer = same_work whole before sets c.loop-left.network.rules c.advance.new.network.rules cs (unsettled_count c.loop-left.network.settled) (unsettled_count c.advance.new.network.settled)
     c.advance.ensures.rules v.rules (c.in_ok-advance.ensures.fewer c.in-Unsettled.is) in
-    let less = unsettled_less whole before sets (length cs) c.loop-left.network.unsettled c.advance.new.network.unsettled c.advance.ensures.kept_count c.advance.ensures.within unsettled v.unsettled
+    let less = unsettled_less whole before sets (length cs) (unsettled_count c.loop-left.network.settled) (unsettled_count c.advance.new.network.settled) c.advance.ensures.kept_count c.advance.ensures.within unsettled v.unsettled
     fewer (points_some whole sets c.advance.ensures.runs filled) in
     let spent = v.spent in
     let visited = v.visited in
@@ -116,9 +117,9 @@ loop-left-preserved-in_ok-push-in-Open g c =
     let mark : cut.mark ≡ length c.args.network.now.marked + length v.pasts = ap (λ k. k.mark) place ∙ ap length marks ∙ length-append c.args.network.now.marked v.pasts in
     let longer = c.in_ok-push-in-Open.ensures.items in
     let nodes = v.nodes in
-    let unsettled = subst (λ cs. c.enter.new.network.unsettled ≤ length cs) (c.in_ok-cut-in-Open.ensures.rules ∙ known_rules) c.in_ok-cut-in-Open.ensures.unsettled in
+    let unsettled = subst (λ cs. (unsettled_count c.enter.new.network.settled) ≤ length cs) (c.in_ok-cut-in-Open.ensures.rules ∙ known_rules) c.in_ok-cut-in-Open.ensures.unsettled in
     let both = opened value wanted whole cut past low c.in_ok-advance.ensures.runs c.in_ok-cut-in-Open.ensures.runs node.filled node.known node.member node.worse c.in_ok-cut-in-Open.ensures.kept_count first in
-    let open_cut = spent_open value wanted whole (length cs) cuts v.pasts cut past v.need (points_of whole before) c.loop-left.network.unsettled c.enter.new.network.unsettled low v.rooms unsettled
+    let open_cut = spent_open value wanted whole (length cs) cuts v.pasts cut past v.need (points_of whole before) (unsettled_count c.loop-left.network.settled) (unsettled_count c.enter.new.network.settled) low v.rooms unsettled
     (points_le whole sets before c.in_ok-advance.ensures.kept_count c.in_ok-advance.ensures.within) both in
     let less = open_cut.less in
     let spent = v.spent in
@@ -196,8 +197,8 @@ loop-left-preserved-else-not-branch g c =
     let left = left_after (SolvesRules cs start) (Rest value wanted cs cuts v.pasts before) (Rest value wanted cs cuts v.pasts sets) v.more v.left (rest_after value wanted cs cuts v.pasts before sets same) in
     let b = went_back value wanted whole cs (length start) first (SolvesRules cs start) cuts c.go_back.new.path.items back.0 v.pasts sets high v.more [] c.advance.new.network.marked c.go_back.new.network.marked
     c.go_back.new.network.rules back.1 here (c.in_ok-advance.ensures.marked ∙ v.marked) back.2 back.3 left (finds_none (SolvesRules cs sets) (none_solves cs sets dead)) in
-    let unsettled = subst (λ cs. c.go_back.new.network.unsettled ≤ length cs) b.rules (c.in_ok-go_back-in-Dead.ensures.unsettled c.if-not-branch.false) in
-    let s = spent_back value wanted whole (length cs) cuts c.go_back.new.path.items back.0 v.pasts b.before b.past v.need (points_of whole before) c.loop-left.network.unsettled c.go_back.new.network.unsettled high
+    let unsettled = subst (λ cs. (unsettled_count c.go_back.new.network.settled) ≤ length cs) b.rules (c.in_ok-go_back-in-Dead.ensures.unsettled c.if-not-branch.false) in
+    let s = spent_back value wanted whole (length cs) cuts c.go_back.new.path.items back.0 v.pasts b.before b.past v.need (points_of whole before) (unsettled_count c.loop-left.network.settled) (unsettled_count c.go_back.new.network.settled) high
     back.1 b.split b.one_each v.rooms unsettled b.same_count b.other in
     let less = s.less in
     let spent = v.spent in
@@ -247,9 +248,9 @@ loop-left-preserved g c =
     let finds = finds_one (SolvesRules cs sets) one (single_solves cs sets one present supported only) (λ point s. single_solution cs sets one point only s) in
     let b = went_back value wanted whole cs (length start) first (SolvesRules cs start) cuts c.go_back-in-Leaf.new.path.items back.0 v.pasts sets high v.more (one ∷ []) c.advance.new.network.marked
     c.go_back-in-Leaf.new.network.marked c.go_back-in-Leaf.new.network.rules back.1 here (c.in_ok-advance.ensures.marked ∙ v.marked) back.2 back.3 left finds in
-    let unsettled = subst (λ cs. c.go_back-in-Leaf.new.network.unsettled ≤ length cs) b.rules (c.in_ok-go_back-in-Leaf.ensures.unsettled c.if-not-branch-2.false) in
-    let s = spent_back value wanted whole (length cs) cuts c.go_back-in-Leaf.new.path.items back.0 v.pasts b.before b.past v.need (points_of whole before) c.loop-left.network.unsettled
-    c.go_back-in-Leaf.new.network.unsettled high back.1 b.split b.one_each v.rooms unsettled b.same_count b.other in
+    let unsettled = subst (λ cs. (unsettled_count c.go_back-in-Leaf.new.network.settled) ≤ length cs) b.rules (c.in_ok-go_back-in-Leaf.ensures.unsettled c.if-not-branch-2.false) in
+    let s = spent_back value wanted whole (length cs) cuts c.go_back-in-Leaf.new.path.items back.0 v.pasts b.before b.past v.need (points_of whole before) (unsettled_count c.loop-left.network.settled)
+    (unsettled_count c.go_back-in-Leaf.new.network.settled) high back.1 b.split b.one_each v.rooms unsettled b.same_count b.other in
     let less = s.less in
     let spent = v.spent in
     let nodes = v.nodes in
@@ -296,7 +297,7 @@ returns-then-not-branch g c =
     let none = c.in_ok-go_back-in-Dead.ensures.none c.if-not-branch.true in
     let here = path_within value wanted whole cs (length start) (length first) (SolvesRules cs start) cuts v.pasts before sets v.path (λ point s. (same point).1 s) in
     let left = left_after (SolvesRules cs start) (Rest value wanted cs cuts v.pasts before) (Rest value wanted cs cuts v.pasts sets) v.more v.left (rest_after value wanted cs cuts v.pasts before sets same) in
-    let spent = within_budget (length cs) (points_of whole before) c.loop-left.network.unsettled (points_of whole start) c.args.left.now.nodes c.loop-left.left.nodes v.need v.spent in
+    let spent = within_budget (length cs) (points_of whole before) (unsettled_count c.loop-left.network.settled) (points_of whole start) c.args.left.now.nodes c.loop-left.left.nodes v.need v.spent in
     let nodes = v.nodes in record {
       rules = ap (λ n. n.rules) none.1 ∙ c.in_ok-advance.ensures.rules ∙ v.rules;
       marked = ap (λ n. n.marked) none.1 ∙ no_cut_marks value wanted whole cs (length start) (length first) (SolvesRules cs start) cuts v.pasts sets first c.advance.new.network.marked here none.0 (c.in_ok-advance.ensures.marked ∙ v.marked);
@@ -338,7 +339,7 @@ returns-then-not-branch-2 g c =
     let one = point.0 in
     let only : IsOnlyPoint sets one = subst (λ sets. IsOnlyPoint sets one) c.domains.ensures.same point.1 in
     let finds = finds_one (SolvesRules cs sets) one (single_solves cs sets one present supported only) (λ point s. single_solution cs sets one point only s) in
-    let spent = within_budget (length cs) (points_of whole before) c.loop-left.network.unsettled (points_of whole start) c.args.left.now.nodes c.loop-left.left.nodes v.need v.spent in
+    let spent = within_budget (length cs) (points_of whole before) (unsettled_count c.loop-left.network.settled) (points_of whole start) c.args.left.now.nodes c.loop-left.left.nodes v.need v.spent in
     let nodes = v.nodes in
     let solutions = c.if-left-eq0.false in
     let so_far = v.counted in
@@ -367,7 +368,7 @@ returns-then-left-eq0 g c =
     let whole = g.B.Width.whole in
     let cs = c.args.network.now.rules in
     let start = c.args.network.now.domains in
-    let spent = within_budget (length cs) (points_of whole c.loop-left.network.domains) c.loop-left.network.unsettled (points_of whole start) c.args.left.now.nodes c.loop-left.left.nodes v.need v.spent in
+    let spent = within_budget (length cs) (points_of whole c.loop-left.network.domains) (unsettled_count c.loop-left.network.settled) (points_of whole start) c.args.left.now.nodes c.loop-left.left.nodes v.need v.spent in
     record {
       rules = c.drop_path.ensures.rules ∙ v.rules;
       marked = marks_before value c.args.wanted whole cs (SolvesRules cs start) (length start) c.loop-left.path.items v.pasts c.loop-left.network.domains c.args.network.now.marked c.loop-left.network.marked
@@ -388,7 +389,7 @@ returns g c =
     let whole = g.B.Width.whole in
     let cs = c.args.network.now.rules in
     let start = c.args.network.now.domains in
-    let spent = within_budget (length cs) (points_of whole c.loop-left.network.domains) c.loop-left.network.unsettled (points_of whole start) c.args.left.now.nodes c.loop-left.left.nodes v.need v.spent in
+    let spent = within_budget (length cs) (points_of whole c.loop-left.network.domains) (unsettled_count c.loop-left.network.settled) (points_of whole start) c.args.left.now.nodes c.loop-left.left.nodes v.need v.spent in
     let none = c.loop-left-test.false in
     record {
       rules = c.drop_path-2.ensures.rules ∙ v.rules;

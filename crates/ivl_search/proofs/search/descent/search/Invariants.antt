@@ -1,5 +1,6 @@
 use Rattle.std.proofs.Common.{◌≡◌, ◌+◌, ◌/◌, ◌≤◌, ◌++◌, ℕ, List, length, map, true}
 use Rattle.std.specs.Prelude.{ℤ}
+use Rattle.ivl_network.specs.Queue.{unsettled_count}
 use Rattle.ivl_network.specs.Trail.{RulesPast}
 use Rattle.ivl_search.specs.Points.{SolvesRules}
 use Rattle.ivl_search.proofs.Paths.{IsPath, Rest}
@@ -13,7 +14,7 @@ invariant-loop-left g l = record {
   rules : l.network.rules ≡ l.fn.network.rules;
   kept_count : length l.network.domains ≡ length l.fn.network.domains;
   nodes : l.left.nodes ≤ l.fn.left.nodes;
-  unsettled : l.network.unsettled ≤ length l.fn.network.rules;
+  unsettled : (unsettled_count l.network.settled) ≤ length l.fn.network.rules;
   is_kept : l.found.is_kept ≡ l.fn.found.is_kept;
   pasts : List RulesPast;
   marked : l.network.marked ≡ l.fn.network.marked ++ pasts;
@@ -26,7 +27,7 @@ invariant-loop-left g l = record {
   visited : l.fn.left.solutions + l.left.nodes ≤ l.left.solutions + l.fn.left.nodes;
   need : ℕ;
   rooms : HasRoom g.B.Width.value l.wanted g.B.Width.whole (length l.fn.network.rules / 500 + 1) l.path.items pasts need;
-  spent : l.fn.left.nodes + (need + nodes_here (length l.fn.network.rules / 500 + 1) (points_of g.B.Width.whole l.network.domains) l.network.unsettled)
+  spent : l.fn.left.nodes + (need + nodes_here (length l.fn.network.rules / 500 + 1) (points_of g.B.Width.whole l.network.domains) (unsettled_count l.network.settled))
       ≤ l.left.nodes + nodes_root (length l.fn.network.rules / 500 + 1) (points_of g.B.Width.whole l.fn.network.domains);
 }
 

@@ -5,4 +5,4 @@ use Rattle.ivl_network.proofs.network.index.Index.push_variable.Goals as goal
 
 pub returns : goal.returns
 returns c = λ count cs s.
-    variable_pushed count cs c.args.self.now _ (of_both (λ t. lasts_of t _ ≡ lasts_of t c.args.self.now ++ 0 ∷ []) c.push_reserved-2.ensures.items c.push_reserved.ensures.items) refl s
+    variable_pushed count cs c.args.self.now _ (of_both (λ t. lasts_of t _ ≡ lasts_of t c.args.self.now ++ 0 ∷ []) c.push_reserved-2.ensures.items c.push_reserved.ensures.items) refl refl s
