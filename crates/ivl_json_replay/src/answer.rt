@@ -26,11 +26,20 @@ pub fn runs_text<B: Width + Display>(
     if set.is_empty() {
         return String::from_str(alloc, "-");
     }
+    let mut text = list_text(alloc, set.iter().as_slice())?;
+    let _ = text.pop();
+    Ok(text)
+}
+
+/// The bounds of each interval, and a blank behind each.
+fn list_text<B: Width + Display>(
+    alloc: Global,
+    list: &[Interval<B>],
+) -> Result<String, AllocError> {
     let mut text = String::new(alloc);
-    for run in set.iter() {
-        text.push_str(interval_text(alloc, run)?.as_str())?;
+    for interval in list {
+        text.push_str(interval_text(alloc, interval)?.as_str())?;
         text.push(' ')?;
     }
-    let _ = text.pop();
     Ok(text)
 }
