@@ -567,6 +567,8 @@ def maps(count):
         many.set(5, 9, "value %d" % n)
     assert list(many) == [((5, 9), "value 2999")] and len(many._values) < 200, len(many._values)
     raises(KeyError, lambda: many[4], "4")
+    for wrong in ([(1, 2)], [5], [((1, 2, 3), 4)], {1: 2}):
+        raises(TypeError, lambda: IntervalMap(wrong), "an entry is a pair of bounds and a value")
     raises(OutOfRange, lambda: many.set(1, 2**63, 0), "9223372036854775808 is outside the range of i64")
     raises(ValueError, lambda: many.__setitem__(slice(1, 5, 2), 0), "no step")
     many[20] = 1

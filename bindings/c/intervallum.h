@@ -383,7 +383,7 @@ IVL_CHECKED_ALL(u64, uint64_t)
 #define IVL_DEFINE_SUMS(name, type, is_inside, fits)                                                                        \
     static inline int64_t ivl_##name##_##type(const ivl_pair_##type *a, size_t n, const ivl_pair_##type *b, size_t m,       \
                                               ivl_pair_##type *IVL_RESTRICT out, size_t room) {                             \
-        ivl_pair_##type x, y;                                                                                               \
+        ivl_pair_##type x = {0, 0}, y = {0, 0};                                                                             \
         if (ivl_hull_##type(a, n, &x) && ivl_hull_##type(b, m, &y) && (is_inside) && !(fits))                               \
             return IVL_SUM_OUT_OF_RANGE;                                                                                    \
         return ivl_##name##_within_##type(a, n, b, m, out, room);                                                           \

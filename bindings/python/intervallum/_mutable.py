@@ -368,6 +368,9 @@ class MutableIntervalSet(collections.abc.MutableSet[int]):
 class IntervalMap(Generic[V]):
     """A map from whole numbers to values of any kind: each number has one or none, and neighbours of equal value stand in one entry.
 
+    Equal values are kept once, as keys of a dict are, so that `True` reads as 1 after 1; a value must not change while it is held.
+    One without a hash is looked for among all that are held.
+
     >>> desk = IntervalMap([((8, 17), "anna"), ((12, 13), "bela")])
     >>> desk
     IntervalMap([((8, 11), 'anna'), ((12, 13), 'bela'), ((14, 17), 'anna')])
@@ -388,7 +391,11 @@ class IntervalMap(Generic[V]):
         self._numbers: dict[V, int] = {}
         self._values: list[Any] = []
         self._unused: list[int] = []
-        for (lower, upper), value in entries:
+        for entry in entries:
+            try:
+                (lower, upper), value = entry
+            except (TypeError, ValueError):
+                raise TypeError("an entry is a pair of bounds and a value, ((1, 5), 'anna'), not %r" % (entry,)) from None
             self.set(lower, upper, value)
 
     def _number(self, value: V) -> int:
