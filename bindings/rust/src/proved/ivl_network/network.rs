@@ -34,6 +34,7 @@ use crate::rattle::std::alloc::{AllocError, Global};
 
 mod allowed;
 mod change;
+mod hashes;
 mod index;
 
 mod narrowing;
@@ -67,7 +68,7 @@ enum Step {
 }
 
 /// Variables with a domain each, and the rules between them so far. A contract sees the two lists, and
-/// how many rules have to be looked at again.
+/// which rules are settled, so that they need not be looked at again.
 ///
 /// Variables are named by their indexes from 0. Domains only lose members. A call that fails with
 /// [`StoreFault::Variable`] leaves the network unchanged.
@@ -110,7 +111,7 @@ impl<B: Width> Network<B> {
     /// # Proved
     ///
     /// ```text
-    /// ensures { result ≡ record { domains = []; rules = []; unsettled = 0; marked = [] } }
+    /// ensures { result ≡ record { domains = []; rules = []; settled = []; marked = [] } }
     /// ```
     pub fn new(alloc: Global) -> Network<B> {
         Network {
@@ -181,11 +182,12 @@ impl<B: Width> Network<B> {
     /// ```text
     /// ensures same { result.now ≡ self.now.rules }
     /// ensures different { All AreDifferent self.now.rules }
-    /// ensures unsettled { self.now.unsettled ≤ length self.now.rules }
+    /// ensures one_each { length self.now.settled ≡ length self.now.rules }
+    /// ensures unsettled { unsettled_count self.now.settled ≤ length self.now.rules }
     /// ensures present { All (ArePresent (length self.now.domains)) self.now.rules }
     /// ```
     ///
-    /// Words: [`AreDifferent`](crate::definitions#AreDifferent), [`ArePresent`](crate::definitions#ArePresent).
+    /// Words: [`AreDifferent`](crate::definitions#AreDifferent), [`unsettled_count`](crate::definitions#unsettled_count), [`ArePresent`](crate::definitions#ArePresent).
     pub fn rules(&self) -> &[Rule] {
         self.rules.as_slice()
     }
@@ -227,7 +229,7 @@ impl<B: Width> Network<B> {
     ///
     /// ```text
     /// ensures index { IfOk result (λ i. i ≡ length self.old.domains) }
-    /// ensures added { OnOk result (self.new ≡ record { domains = self.old.domains ++ domain ∷ []; rules = self.old.rules; unsettled = self.old.unsettled; marked = self.old.marked }) }
+    /// ensures added { OnOk result (self.new ≡ record { domains = self.old.domains ++ domain ∷ []; rules = self.old.rules; settled = self.old.settled; marked = self.old.marked }) }
     /// ensures err { OnErr result (self.new ≡ self.old) }
     /// ```
     pub fn add_variable(&mut self, domain: IntervalSet<B>) -> Result<usize, AllocError> {
@@ -248,7 +250,7 @@ impl<B: Width> Network<B> {
     /// The caller must ensure that the rule names each of its variables once. Check with
     /// [`Rule::is_over_different`].
     ///
-    /// Linear in the rules that name its last variable, which are compared with it.
+    /// Amortized `O(1)`: a rule is compared with those before it whose hashes fall together with its own.
     ///
     /// # Errors
     ///
@@ -280,6 +282,8 @@ impl<B: Width> Network<B> {
     /// ensures domains { self.new.domains ≡ self.old.domains }
     /// ensures marked { self.new.marked ≡ self.old.marked }
     /// ensures required { OnOk result (IsRuleRequired rule self.old.rules self.new.rules) }
+    /// ensures known { Contains self.old.rules rule → self.new ≡ self.old }
+    /// ensures added { OnOk result (¬ (Contains self.old.rules rule) → self.new ≡ record { domains = self.old.domains; rules = self.old.rules ++ rule ∷ []; settled = self.old.settled ++ false ∷ []; marked = self.old.marked }) }
     /// ensures refused { OnErr result (self.new ≡ self.old) }
     /// ```
     ///
@@ -339,10 +343,11 @@ impl<B: Width> Network<B> {
     /// ensures marked { self.new.marked ≡ self.old.marked }
     /// ensures kept_count { length self.new.domains ≡ length self.old.domains }
     /// ensures cut { OnOk result (IsCutAt variable (Covers allowed.now) (set_at self.old.domains) (set_at self.new.domains)) }
+    /// ensures same { IsSubset (set_at self.old.domains variable) (Covers allowed.now) → self.new ≡ self.old }
     /// ensures refused { OnErr result (self.new ≡ self.old) }
     /// ```
     ///
-    /// Words: [`IsCutAt`](crate::definitions#IsCutAt), [`Covers`](crate::definitions#Covers), [`set_at`](crate::definitions#set_at).
+    /// Words: [`IsCutAt`](crate::definitions#IsCutAt), [`Covers`](crate::definitions#Covers), [`set_at`](crate::definitions#set_at), [`IsSubset`](crate::definitions#IsSubset).
     pub fn restrict(&mut self, variable: usize, allowed: &IntervalSet<B>) -> Result<(), StoreFault> {
         self.cut(variable, allowed)
     }
@@ -377,10 +382,11 @@ impl<B: Width> Network<B> {
     /// ensures marked { self.new.marked ≡ self.old.marked }
     /// ensures kept_count { length self.new.domains ≡ length self.old.domains }
     /// ensures cut { OnOk result (IsCutAt variable (IsBetween allowed) (set_at self.old.domains) (set_at self.new.domains)) }
+    /// ensures same { IsSubset (set_at self.old.domains variable) (IsBetween allowed) → self.new ≡ self.old }
     /// ensures refused { OnErr result (self.new ≡ self.old) }
     /// ```
     ///
-    /// Words: [`IsCutAt`](crate::definitions#IsCutAt), [`IsBetween`](crate::definitions#IsBetween), [`set_at`](crate::definitions#set_at).
+    /// Words: [`IsCutAt`](crate::definitions#IsCutAt), [`IsBetween`](crate::definitions#IsBetween), [`set_at`](crate::definitions#set_at), [`IsSubset`](crate::definitions#IsSubset).
     pub fn restrict_to_interval(
         &mut self,
         variable: usize,
@@ -471,11 +477,11 @@ impl<B: Width> Network<B> {
     ///     × AreRuleNarrowings self.old.rules count (set_at self.old.domains) (set_at self.new.domains)) }
     /// ensures made_before { OnErr result ((count : ℕ) × (count < budget) × AreRuleNarrowings self.old.rules count (set_at self.old.domains) (set_at self.new.domains)) }
     /// ensures fewer { IfOk result (λ s. s ≡ Settled.Unfinished → budget + work_of_rules B.whole self.new ≤ work_of_rules B.whole self.old) }
-    /// ensures exactly { IfOk result (λ s. s ≡ Settled.All ↔ self.new.unsettled ≡ 0) }
+    /// ensures exactly { IfOk result (λ s. s ≡ Settled.All ↔ unsettled_count self.new.settled ≡ 0) }
     /// ensures enough { IfOk result (λ s. work_of_rules B.whole self.old ≤ budget → s ≡ Settled.All) }
     /// ```
     ///
-    /// Words: [`KeepsUnder`](crate::definitions#KeepsUnder), [`IsCommonPoint`](crate::definitions#IsCommonPoint), [`set_at`](crate::definitions#set_at), [`IsGreatestUnder`](crate::definitions#IsGreatestUnder), [`AreRuleNarrowings`](crate::definitions#AreRuleNarrowings), [`work_of_rules`](crate::definitions#work_of_rules).
+    /// Words: [`KeepsUnder`](crate::definitions#KeepsUnder), [`IsCommonPoint`](crate::definitions#IsCommonPoint), [`set_at`](crate::definitions#set_at), [`IsGreatestUnder`](crate::definitions#IsGreatestUnder), [`AreRuleNarrowings`](crate::definitions#AreRuleNarrowings), [`work_of_rules`](crate::definitions#work_of_rules), [`unsettled_count`](crate::definitions#unsettled_count).
     pub fn settle(&mut self, budget: u64) -> Result<Settled, StoreFault> {
         self.narrow_up_to(budget, false)?;
         Ok(self.reached())
@@ -508,7 +514,7 @@ impl<B: Width> Network<B> {
     ///
     /// # Proved
     ///
-    /// Domains only lose members, and no supported family and no common solution loses one. All: the domains are the greatest supported family, and no rule is left to look at. So many narrowings were made: all of the budget if some rule is left and no domain is empty, and none if one was. No narrowing is made in vain: so many fewer are left.
+    /// Domains only lose members, and no supported family and no common solution loses one. All: the domains are the greatest supported family, and no rule is left to look at. So many narrowings were made: all of the budget if some rule is left and no domain is empty, and none if one was. All but the last of them left no domain empty. No narrowing is made in vain: so many fewer are left.
     ///
     /// ```text
     /// ensures memory { IfErr result (λ fault. fault ≡ StoreFault.Memory) }
@@ -518,16 +524,17 @@ impl<B: Width> Network<B> {
     /// ensures keeps { KeepsUnder self.old.rules self.old.domains self.new.domains }
     /// ensures solutions { (point : ℕ → ℤ) → IsCommonPoint self.old.rules (set_at self.old.domains) point → IsCommonPoint self.old.rules (set_at self.new.domains) point }
     /// ensures greatest { IfOk result (λ s. s ≡ Settled.All → IsGreatestUnder self.old.rules (set_at self.old.domains) (set_at self.new.domains)) }
-    /// ensures exactly { IfOk result (λ s. s ≡ Settled.All ↔ self.new.unsettled ≡ 0) }
+    /// ensures exactly { IfOk result (λ s. s ≡ Settled.All ↔ unsettled_count self.new.settled ≡ 0) }
     /// ensures made { IfOk result (λ s. (count : ℕ) × (count ≤ budget) × (s ≡ Settled.Unfinished → (count ≡ budget) ⊎ Any (λ L. L ≡ []) self.new.domains)
     ///     × AreRuleNarrowings self.old.rules count (set_at self.old.domains) (set_at self.new.domains)) }
     /// ensures made_before { OnErr result ((count : ℕ) × (count < budget) × AreRuleNarrowings self.old.rules count (set_at self.old.domains) (set_at self.new.domains)) }
     /// ensures stops { Any (λ L. L ≡ []) self.old.domains → self.new ≡ self.old }
+    /// ensures emptied { (self.new.domains ≡ self.old.domains) ⊎ ((count : ℕ) × (count < budget) × IsEmptiedLast self.old.rules count self.old.domains self.new.domains) }
     /// ensures fewer { IfOk result (λ s. s ≡ Settled.Unfinished → (budget + work_of_rules B.whole self.new ≤ work_of_rules B.whole self.old) ⊎ Any (λ L. L ≡ []) self.new.domains) }
     /// ensures enough { IfOk result (λ s. work_of_rules B.whole self.old ≤ budget → (s ≡ Settled.All) ⊎ Any (λ L. L ≡ []) self.new.domains) }
     /// ```
     ///
-    /// Words: [`KeepsUnder`](crate::definitions#KeepsUnder), [`IsCommonPoint`](crate::definitions#IsCommonPoint), [`set_at`](crate::definitions#set_at), [`IsGreatestUnder`](crate::definitions#IsGreatestUnder), [`AreRuleNarrowings`](crate::definitions#AreRuleNarrowings), [`work_of_rules`](crate::definitions#work_of_rules).
+    /// Words: [`KeepsUnder`](crate::definitions#KeepsUnder), [`IsCommonPoint`](crate::definitions#IsCommonPoint), [`set_at`](crate::definitions#set_at), [`IsGreatestUnder`](crate::definitions#IsGreatestUnder), [`unsettled_count`](crate::definitions#unsettled_count), [`AreRuleNarrowings`](crate::definitions#AreRuleNarrowings), [`IsEmptiedLast`](crate::definitions#IsEmptiedLast), [`work_of_rules`](crate::definitions#work_of_rules).
     pub fn settle_unless_empty(&mut self, budget: u64) -> Result<Settled, StoreFault> {
         self.narrow_up_to(budget, true)?;
         Ok(self.reached())
@@ -580,7 +587,7 @@ impl<B: Width> Network<B> {
     ///
     /// # Proved
     ///
-    /// Domains only lose members, and no supported family and no common solution loses one. All: the domains are the greatest supported family, and no rule is left to look at. What was made counts for no more than the budget, and the next narrowing for more than is left if some rule is left.
+    /// Domains only lose members, and no supported family and no common solution loses one. All: the domains are the greatest supported family, and no rule is left to look at. What was made counts for no more than the budget, also on an error. If some rule is left, one that is not settled counts for more than is left.
     ///
     /// ```text
     /// ensures memory { IfErr result (λ fault. fault ≡ StoreFault.Memory) }
@@ -590,13 +597,15 @@ impl<B: Width> Network<B> {
     /// ensures keeps { KeepsUnder self.old.rules self.old.domains self.new.domains }
     /// ensures solutions { (point : ℕ → ℤ) → IsCommonPoint self.old.rules (set_at self.old.domains) point → IsCommonPoint self.old.rules (set_at self.new.domains) point }
     /// ensures greatest { IfOk result (λ s. s ≡ Settled.All → IsGreatestUnder self.old.rules (set_at self.old.domains) (set_at self.new.domains)) }
-    /// ensures exactly { IfOk result (λ s. s ≡ Settled.All ↔ self.new.unsettled ≡ 0) }
+    /// ensures exactly { IfOk result (λ s. s ≡ Settled.All ↔ unsettled_count self.new.settled ≡ 0) }
     /// ensures made { IfOk result (λ s. (by : List Rule) × (cost : ℕ) × AreRulesCounted self.old.rules by cost self.old.domains self.new.domains × (cost ≤ budget)
-    ///     × (s ≡ Settled.Unfinished → (next : Rule) × Contains self.old.rules next × (budget < cost + cost_of next self.new.domains))
+    ///     × (s ≡ Settled.Unfinished → (next : Rule) × IsWaiting self.new next × (budget < cost + cost_of next self.new.domains))
+    ///     × (length by + work_of_rules B.whole self.new ≤ work_of_rules B.whole self.old)) }
+    /// ensures made_before { OnErr result ((by : List Rule) × (cost : ℕ) × AreRulesCounted self.old.rules by cost self.old.domains self.new.domains × (cost ≤ budget)
     ///     × (length by + work_of_rules B.whole self.new ≤ work_of_rules B.whole self.old)) }
     /// ```
     ///
-    /// Words: [`KeepsUnder`](crate::definitions#KeepsUnder), [`IsCommonPoint`](crate::definitions#IsCommonPoint), [`set_at`](crate::definitions#set_at), [`IsGreatestUnder`](crate::definitions#IsGreatestUnder), [`AreRulesCounted`](crate::definitions#AreRulesCounted), [`cost_of`](crate::definitions#cost_of_rule), [`work_of_rules`](crate::definitions#work_of_rules).
+    /// Words: [`KeepsUnder`](crate::definitions#KeepsUnder), [`IsCommonPoint`](crate::definitions#IsCommonPoint), [`set_at`](crate::definitions#set_at), [`IsGreatestUnder`](crate::definitions#IsGreatestUnder), [`unsettled_count`](crate::definitions#unsettled_count), [`AreRulesCounted`](crate::definitions#AreRulesCounted), [`IsWaiting`](crate::definitions#IsWaiting), [`cost_of`](crate::definitions#cost_of_rule), [`work_of_rules`](crate::definitions#work_of_rules).
     pub fn settle_within(&mut self, budget: u64) -> Result<Settled, StoreFault> {
         let mut left = budget;
         loop {
@@ -683,7 +692,7 @@ impl<B: Width> Network<B> {
     ///
     /// ```text
     /// ensures index { IfOk result (λ mark. mark ≡ length self.old.marked) }
-    /// ensures marked { OnOk result (self.new ≡ record { domains = self.old.domains; rules = self.old.rules; unsettled = self.old.unsettled; marked = self.old.marked ++ (record { domains = self.old.domains; rules = self.old.rules }) ∷ [] }) }
+    /// ensures marked { OnOk result (self.new ≡ record { domains = self.old.domains; rules = self.old.rules; settled = self.old.settled; marked = self.old.marked ++ (record { domains = self.old.domains; rules = self.old.rules }) ∷ [] }) }
     /// ensures err { OnErr result (self.new ≡ self.old) }
     /// ```
     pub fn mark(&mut self) -> Result<usize, AllocError> {
@@ -778,7 +787,7 @@ impl<B: Width> Network<B> {
     /// # Proved
     ///
     /// ```text
-    /// ensures { self.new ≡ record { domains = self.old.domains; rules = self.old.rules; unsettled = self.old.unsettled; marked = take mark self.old.marked } }
+    /// ensures { self.new ≡ record { domains = self.old.domains; rules = self.old.rules; settled = self.old.settled; marked = take mark self.old.marked } }
     /// ```
     pub fn drop_marks(&mut self, mark: usize) {
         self.marks.truncate(mark);

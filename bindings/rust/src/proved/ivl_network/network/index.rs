@@ -3,6 +3,7 @@
 
 #[allow(unused_imports)]
 use crate::rattle::prelude::*;
+use super::hashes::Hashes;
 use super::narrowing::has_two;
 use crate::proved::intervallum::width::Width;
 use crate::proved::ivl_rules::rules::Rule;
@@ -19,6 +20,8 @@ pub(super) struct Index {
     links: Vec<usize>,
     // For each rule, how many variables it alone names, of those that had several members, `Differs` aside.
     leaves: Vec<u8>,
+    // By which a rule is found.
+    hashes: Hashes,
 }
 
 impl Index {
@@ -28,6 +31,7 @@ impl Index {
             single_lasts: Vec::new(alloc),
             links: Vec::new(alloc),
             leaves: Vec::new(alloc),
+            hashes: Hashes::new(alloc),
         }
     }
 
@@ -37,6 +41,7 @@ impl Index {
         self.single_lasts.reserve(variables)?;
         self.links.reserve(rules.saturating_mul(4))?;
         self.leaves.reserve(rules)?;
+        self.hashes.reserve(rules)?;
         Ok(())
     }
 
@@ -63,6 +68,7 @@ impl Index {
     pub(super) fn reserve_rule(&mut self) -> Result<(), AllocError> {
         self.links.reserve(4)?;
         self.leaves.reserve(1)?;
+        self.hashes.reserve(1)?;
         Ok(())
     }
 
@@ -92,6 +98,7 @@ impl Index {
 
     /// Adds a rule after the others.
     pub(super) fn push_rule(&mut self, rule: &Rule) {
+        self.hashes.push(hash_of(rule));
         let c = rule.places();
         let start = self.links.len();
         if rule.needs_single_numbers() {
@@ -110,6 +117,7 @@ impl Index {
             return;
         }
         let _ = self.leaves.pop();
+        self.hashes.pop();
         let start = count - 4;
         let x = self.links[start + 1];
         let y = self.links[start + 2];
@@ -139,18 +147,36 @@ impl Index {
         self.links[place]
     }
 
-    /// Whether a rule is one of the list: a walk over those of its kind that name its last variable.
+    /// Whether a rule is one of the list: a walk over those in the bucket of its hash.
     pub(super) fn has(&self, rules: &[Rule], rule: &Rule) -> bool {
-        let variable = rule.places().z;
-        let mut place = self.last(rule.needs_single_numbers(), variable);
+        let mut place = self.hashes.last(hash_of(rule));
         while place > 0 {
-            if is_same(&rules[place / 4], rule) {
+            if is_same(&rules[place - 1], rule) {
                 return true;
             }
-            place = self.before(place);
+            place = self.hashes.before(place);
         }
         false
     }
+}
+
+/// A hash of a rule, from its kind and what it holds.
+fn hash_of(rule: &Rule) -> u64 {
+    match rule {
+        Rule::Sum(c) => mixed(mixed(mixed(1, c.x as u64), c.y as u64), c.z as u64),
+        Rule::Shifted { x, y, by } => hash_of_two(2, *x, *y, *by),
+        Rule::AtMost { x, y, by } => hash_of_two(3, *x, *y, *by),
+        Rule::Differs { x, y, by } => hash_of_two(4, *x, *y, *by),
+    }
+}
+
+fn hash_of_two(kind: u64, x: usize, y: usize, by: i64) -> u64 {
+    mixed(mixed(mixed(kind, x as u64), y as u64), by.unsigned_abs())
+}
+
+/// A hash with one more number.
+fn mixed(hash: u64, word: u64) -> u64 {
+    hash.wrapping_mul(0x9E37_79B9_7F4A_7C15).wrapping_add(word)
 }
 
 /// Adds a 0 and the places that stand at three variables.
