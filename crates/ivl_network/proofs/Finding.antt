@@ -4,7 +4,7 @@ use Rattle.std.specs.Prelude.{map}
 use Rattle.std.proofs.lemmas.Bool.{cases_eq, cases_lt}
 use Rattle.std.proofs.lemmas.List.{get_or-map, get_or_default, length-map}
 use Rattle.ivl_rules.specs.declared.rules.Rule.{Rule}
-use Rattle.ivl_network.specs.Hashes.{AreLinked, IsLastIn, bucket_of}
+use Rattle.ivl_network.specs.Hashes.{AreInBuckets, IsLastIn, bucket_of}
 use Rattle.ivl_network.specs.RuleHashes.{hash_of_rule}
 
 -- the rule is none of those from a place on, and one that is in its bucket stands there
@@ -28,7 +28,7 @@ none_from_last rules hashes size rule place is h =
       none = (λ k d from to e. h.none k from (omega (arith, to, n)) (ap (bucket_of size) (hash_at rules hashes k d rule is to e)));
     }
 
-pub none_from_next : (rules : List Rule) (hashes links lasts : List ℕ) (rule d : Rule) (place next : ℕ) → hashes ≡ map hash_of_rule rules → AreLinked (length hashes) hashes links lasts
+pub none_from_next : (rules : List Rule) (hashes links lasts : List ℕ) (rule d : Rule) (place next : ℕ) → hashes ≡ map hash_of_rule rules → AreInBuckets (length hashes) hashes links lasts
     → IsNoneFrom rules hashes (length lasts) rule place → 0 < place → next ≡ get_or links (place - 1) 0 → get_or rules (place - 1) d ≢ rule → IsNoneFrom rules hashes (length lasts) rule next
 none_from_next rules hashes links lasts rule d place next is linked h some at other =
     let n : length hashes ≡ length rules = ap length is ∙ length-map rules hash_of_rule in
@@ -54,6 +54,6 @@ none_from_next rules hashes links lasts rule d place next is linked h some at ot
     below_or j k ne = elim (cases_lt j k) [ inl lt ↦ inl lt | inr ge ↦ inr (omega (arith, ne, ge)) ]
 
 -- the walk goes down
-pub next_is_below : (hashes links lasts : List ℕ) (place next : ℕ) → AreLinked (length hashes) hashes links lasts → 0 < place → place ≤ length hashes → next ≡ get_or links (place - 1) 0 → next < place
+pub next_is_below : (hashes links lasts : List ℕ) (place next : ℕ) → AreInBuckets (length hashes) hashes links lasts → 0 < place → place ≤ length hashes → next ≡ get_or links (place - 1) 0 → next < place
 next_is_below hashes links lasts place next linked some low at =
     let m = (linked.links (place - 1) (omega (arith, some, low))).low in omega (arith, m, at, some)

@@ -3,7 +3,7 @@ use Rattle.std.proofs.Common.{◌≡◌, ◌≢◌, ◌∙◌, ◌+◌, ◌<◌,
 use Rattle.std.proofs.Math.ListN.{get_or-append}
 use Rattle.std.proofs.lemmas.Bool.{cases_eq}
 use Rattle.std.proofs.lemmas.List.{get_or-take, length-set, length-take, length_push, get_or-set_other, get_or-set_same}
-use Rattle.ivl_network.specs.Hashes.{AreLinked, IsLastIn, bucket_of}
+use Rattle.ivl_network.specs.Hashes.{AreInBuckets, IsLastIn, bucket_of}
 
 -- the one that is linked last
 newest : (hashes : List ℕ) (size bucket k : ℕ) → bucket_of size (get_or hashes k 0) ≡ bucket → IsLastIn hashes size bucket (k + 1) (k + 1)
@@ -44,8 +44,8 @@ alike hashes hashes' size bucket before place same h = record {
 }
 
 -- one more is linked
-pub link_one : (k b : ℕ) (hashes links lasts : List ℕ) → AreLinked k hashes links lasts → k < length hashes → b ≡ bucket_of (length lasts) (get_or hashes k 0) → b < length lasts
-    → AreLinked (k + 1) hashes (set links k (get_or lasts b 0)) (set lasts b (k + 1))
+pub link_one : (k b : ℕ) (hashes links lasts : List ℕ) → AreInBuckets k hashes links lasts → k < length hashes → b ≡ bucket_of (length lasts) (get_or hashes k 0) → b < length lasts
+    → AreInBuckets (k + 1) hashes (set links k (get_or lasts b 0)) (set lasts b (k + 1))
 link_one k b hashes links lasts h known is lt =
     let n = length-set lasts b (k + 1) in
     record {
@@ -68,7 +68,7 @@ link_one k b hashes links lasts h known is lt =
     }
 
 -- one more stands at the end, not linked
-pub pushed : (hash : ℕ) (hashes links lasts : List ℕ) → AreLinked (length hashes) hashes links lasts → AreLinked (length hashes) (hashes ++ hash ∷ []) (links ++ 0 ∷ []) lasts
+pub pushed : (hash : ℕ) (hashes links lasts : List ℕ) → AreInBuckets (length hashes) hashes links lasts → AreInBuckets (length hashes) (hashes ++ hash ∷ []) (links ++ 0 ∷ []) lasts
 pushed hash hashes links lasts h =
     let n = length_push hashes hash in let m = length_push links 0 in
     let same : (j : ℕ) → j < length hashes → get_or (hashes ++ hash ∷ []) j 0 ≡ get_or hashes j 0 = (λ j lt. get_or-append hashes (hash ∷ []) 0 j lt) in
@@ -84,8 +84,8 @@ pushed hash hashes links lasts h =
     }
 
 -- the last is dropped
-pub popped : (k b : ℕ) (hashes links lasts : List ℕ) → AreLinked (k + 1) hashes links lasts → k + 1 ≡ length hashes → b ≡ bucket_of (length lasts) (get_or hashes k 0) → b < length lasts
-    → AreLinked k (take k hashes) (take k links) (set lasts b (get_or links k 0))
+pub popped : (k b : ℕ) (hashes links lasts : List ℕ) → AreInBuckets (k + 1) hashes links lasts → k + 1 ≡ length hashes → b ≡ bucket_of (length lasts) (get_or hashes k 0) → b < length lasts
+    → AreInBuckets k (take k hashes) (take k links) (set lasts b (get_or links k 0))
 popped k b hashes links lasts h count is lt =
     let last = get_or links k 0 in
     let n = length-set lasts b last in
@@ -108,7 +108,7 @@ popped k b hashes links lasts h count is lt =
     }
 
 -- where no bucket has any
-pub none_linked : (size : ℕ) (hashes links lasts : List ℕ) → length links ≡ length hashes → ((b : ℕ) → get_or lasts b 0 ≡ 0) → AreLinked 0 hashes links lasts
+pub none_linked : (size : ℕ) (hashes links lasts : List ℕ) → length links ≡ length hashes → ((b : ℕ) → get_or lasts b 0 ≡ 0) → AreInBuckets 0 hashes links lasts
 none_linked size hashes links lasts as_many zeros = record {
   as_many = as_many;
   within = omega arith;

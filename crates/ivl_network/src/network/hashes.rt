@@ -1,7 +1,7 @@
 //! The hashes by which a rule is found.
 ghost use Rattle.std.specs.Prelude.{◌≡◌, ◌<◌, ◌≤◌, ◌+◌, ◌-◌, ◌++◌, ◌∷◌, [], ℕ, OnErr, OnOk, length, slice_index_or, take};
 ghost use Rattle.std.specs.Vec.{vec_capacity};
-ghost use Rattle.ivl_network.specs.Hashes.{AreHashLists, AreLinked, HasHashRoom, IsLastIn, bucket_of};
+ghost use Rattle.ivl_network.specs.Hashes.{AreHashLists, AreInBuckets, HasHashRoom, IsLastIn, bucket_of};
 
 use std::alloc::{AllocError, Global};
 
@@ -47,7 +47,7 @@ impl Hashes {
 
     /// Links all, where no bucket has any.
     fn link_all(&mut self)
-        requires none { AreLinked 0 self.old.hashes.items self.old.links.items self.old.lasts.items }
+        requires none { AreInBuckets 0 self.old.hashes.items self.old.links.items self.old.lasts.items }
         requires some { 0 < length self.old.lasts.items }
         ensures lists { AreHashLists self.new }
         ensures same { self.new.hashes ≡ self.old.hashes }
@@ -61,10 +61,10 @@ impl Hashes {
 
     /// Links one more.
     fn link(&mut self, k: usize)
-        requires linked { AreLinked k self.old.hashes.items self.old.links.items self.old.lasts.items }
+        requires linked { AreInBuckets k self.old.hashes.items self.old.links.items self.old.lasts.items }
         requires known { k < length self.old.hashes.items }
         requires some { 0 < length self.old.lasts.items }
-        ensures linked { AreLinked (k + 1) self.new.hashes.items self.new.links.items self.new.lasts.items }
+        ensures linked { AreInBuckets (k + 1) self.new.hashes.items self.new.links.items self.new.lasts.items }
         ensures same { self.new.hashes ≡ self.old.hashes }
         ensures capacity { vec_capacity self.new.links ≡ vec_capacity self.old.links }
         ensures buckets { length self.new.lasts.items ≡ length self.old.lasts.items }
