@@ -5,6 +5,7 @@ import collections
 import copy
 import ctypes
 import ctypes.util
+import datetime
 import doctest
 import multiprocessing
 import operator
@@ -21,7 +22,7 @@ from decimal import Decimal
 from fractions import Fraction
 
 import intervallum
-from intervallum import IntervalMap, IntervalSet, MutableIntervalSet, OutOfRange
+from intervallum import DateSet, IntervalMap, IntervalSet, MutableIntervalSet, OutOfRange
 
 numpy = intervallum.numpy
 # the library that is proved has no handles: there, sets that never change stand for those that do
@@ -579,6 +580,30 @@ def maps(count):
     print("bindings: Python: %d maps agree with `dict`" % count)
 
 
+# ---- sets of dates
+
+
+def dates(count):
+    random.seed(24)
+    first = datetime.date(2026, 1, 1)
+    for _ in range(count):
+        two = [{first + datetime.timedelta(random.randrange(40)) for _ in range(random.randrange(30))} for _ in range(2)]
+        a, b = map(DateSet, two)
+        for sign in (operator.or_, operator.and_, operator.sub, operator.xor, operator.le, operator.lt, operator.eq, operator.ge):
+            assert sign(a, b) == sign(two[0], two[1]) == sign(a, two[1]), (two, sign)
+        assert list(a) == sorted(two[0]) and len(a) == len(two[0]) and hash(a) == hash(frozenset(two[0]))
+        assert a == DateSet(a.runs()) == pickle.loads(pickle.dumps(a)) == DateSet([a, set()])
+        last = first + datetime.timedelta(39)
+        assert set(a.gaps_within(first, last)) == set(DateSet.of(first, last)) - two[0]
+        fit = a.first_fit(2)
+        assert fit == next(((d, d + datetime.timedelta(1)) for d in a if d + datetime.timedelta(1) in two[0]), None)
+    for wrong in ([5], ["2026-01-01"], [datetime.datetime(2026, 1, 1)], [(first, 5)], first):
+        raises(TypeError, lambda: DateSet(wrong), "not")
+    assert first not in DateSet() and "x" not in a and 5 not in a and datetime.datetime(2026, 1, 1) not in DateSet([first])
+    raises(TypeError, lambda: DateSet([(first,)]), "a pair has two bounds")
+    print("bindings: Python: %d sets of dates agree with `set`" % count)
+
+
 # ---- what is no set, and what the error says
 
 
@@ -827,7 +852,7 @@ def processes():
 
 
 def examples(*pages):
-    modules = [intervallum, intervallum._runs] + [intervallum._mutable] * HAS_HANDLES
+    modules = [intervallum, intervallum._runs, intervallum._dates] + [intervallum._mutable] * HAS_HANDLES
     failed, tried = map(sum, zip(*map(doctest.testmod, modules)))
     parser, run = doctest.DocTestParser(), doctest.DocTestRunner()
     for page in pages:
@@ -926,7 +951,7 @@ def least_time(call):
 
 if __name__ == "__main__":
     calls = {
-        "facts": facts, "sets": sets, "fuzz": fuzz, "threads": threads, "arrays": arrays, "misuse": misuse, "changing": changing, "maps": maps,
+        "facts": facts, "sets": sets, "fuzz": fuzz, "threads": threads, "arrays": arrays, "misuse": misuse, "changing": changing, "maps": maps, "dates": dates,
         "processes": processes, "examples": examples, "speed": speed,
         "header": header,
     }

@@ -34,7 +34,7 @@ from ._calls import HANDLE_SHAPES, NUMBER, SHAPES, Call, Calls
 from ._runs import Runs, listed
 
 __version__ = "2.0.0"
-__all__ = ["IntervalMap", "IntervalSet", "MutableIntervalSet", "OutOfMemory", "OutOfRange", "ProductOutOfRange", "Runs", "SumOutOfRange"]
+__all__ = ["DateSet", "IntervalMap", "IntervalSet", "MutableIntervalSet", "OutOfMemory", "OutOfRange", "ProductOutOfRange", "Runs", "SumOutOfRange"]
 
 
 def _optional(name: str) -> Any:
@@ -770,4 +770,5 @@ def _pairs_of_array(bounds: _Bounds, items: Any) -> tuple[Any, int, int]:
 
 
 # they are made of what is above
+from ._dates import DateSet  # noqa: E402
 from ._mutable import IntervalMap, MutableIntervalSet  # noqa: E402

@@ -337,8 +337,14 @@ fn calls_of_many_entries() {
     assert_eq!(map.get_run(15_002), Some((15_000..=15_004, &1_500)));
     assert_eq!((map.first(), map.last()), (Some((0..=4, &0)), Some((19_990..=19_994, &1_999))));
     assert_eq!((map.next_from(10_005), map.previous_to(10_009)), (map.get_run(10_010), map.get_run(10_000)));
-    assert_eq!((map.iter().len(), map.values().rev().next(), map.clone().into_iter().len()), (2_000, Some(&1_999), 2_000));
-    assert_eq!((map.keys().interval_count(), map.size(), all.difference(&map.keys()).interval_count()), (2_000, 10_000, 2_000));
+    assert_eq!(
+        (map.iter().len(), map.values().rev().next(), map.clone().into_iter().len()),
+        (2_000, Some(&1_999), 2_000)
+    );
+    assert_eq!(
+        (map.keys().interval_count(), map.size(), all.difference(&map.keys()).interval_count()),
+        (2_000, 10_000, 2_000)
+    );
     assert_eq!(map.numbers_with(|i| i % 2 == 1).size(), 5_000);
     assert_eq!((map.gaps_within(0..20_000), map.gaps_within(5..=5).size()), (all.difference(&map.keys()), 1));
     assert_eq!((map.first_fit(2.., 5), map.first_fit(..20_000, 6)), (Some(5..=9), Some(-i32::MAX..=-i32::MAX + 5)));
@@ -457,7 +463,8 @@ fn a_drop_that_panics_leaves_maximal_entries() {
                     map.insert(part, Dropped(value)).unwrap();
                 }
                 DROPS_LEFT.set(drops);
-                panics += i32::from(panic::catch_unwind(AssertUnwindSafe(|| edit(&mut map, of(lower, upper)))).is_err());
+                panics +=
+                    i32::from(panic::catch_unwind(AssertUnwindSafe(|| edit(&mut map, of(lower, upper)))).is_err());
                 DROPS_LEFT.set(i32::MAX);
                 let apart = |a: &(Interval<i32>, Dropped), b: &(Interval<i32>, Dropped)| {
                     a.0.upper() + i32::from(a.1 == b.1) < b.0.lower()
