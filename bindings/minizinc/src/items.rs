@@ -25,6 +25,7 @@ pub enum Type {
     Range(i64, i64),
     Set(Vec<i64>),
     SetOfInt,
+    Float,
 }
 
 /// `array [1..2] of var 1..3: x :: output_array([1..2]) = [a,b];` or one without its array, its `var`, its value.
@@ -137,11 +138,15 @@ impl<'a> Reader<'a> {
         let length = if self.is("array")? { Some(self.length()?) } else { None };
         let is_variable = self.is("var")?;
         let of = self.of_type(if is_variable || length.is_some() { "a type" } else { "an item" })?;
-        if is_variable && of == Type::SetOfInt {
-            return Err(Fault::new(line, "set variables are not supported"));
-        }
         self.want(":")?;
         let name = self.word()?;
+        match of {
+            Type::Float => return Err(Fault::new(line, format!("{name}: floats are not supported"))),
+            Type::SetOfInt if is_variable => {
+                return Err(Fault::new(line, format!("{name}: set variables are not supported")));
+            }
+            _ => {}
+        }
         let annotations = self.annotations()?;
         let value = if self.is("=")? { Some(self.expression()?) } else { None };
         Ok(Declaration { line, length, is_variable, of, name, annotations, value })
@@ -166,7 +171,7 @@ impl<'a> Reader<'a> {
             return Ok(Type::Int);
         }
         if self.is("float")? {
-            return Err(Fault::new(self.line, "floats are not supported"));
+            return Ok(Type::Float);
         }
         if self.is("set")? {
             self.want("of")?;

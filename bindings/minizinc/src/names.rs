@@ -171,7 +171,7 @@ fn domain_of(of: &Type) -> Result<Set, String> {
         Type::Range(lower, upper) => set_of(&Expression::Range(*lower, *upper)),
         Type::Set(numbers) => set_of(&Expression::Set(numbers.clone())),
         Type::Int => Err("a variable without bounds: give it a domain, as 0..100".into()),
-        Type::SetOfInt => Err("set variables are not supported".into()),
+        Type::SetOfInt | Type::Float => Err("only numbers and bools are supported".into()),
     }
 }
 
