@@ -1,9 +1,5 @@
-//! A sudoku: each cell is a variable, and two cells of one row, column or box differ.
-use intervallum::proved::Global;
-use intervallum::proved::interval_set::IntervalSet;
-use intervallum::proved::ivl_rules::rules::Rule;
-use intervallum::proved::ivl_search::search::rules::solutions;
-use intervallum::proved::ivl_search::search::{End, Limits, SearchFault};
+//! A sudoku: each cell is a variable, and the cells of a row, a column or a box are all different.
+use intervallum::solve::{End, Limits, Model};
 
 const CLUES: [&str; 9] = [
     "8........",
@@ -17,36 +13,28 @@ const CLUES: [&str; 9] = [
     ".9....4..",
 ];
 
-/// The digits that a cell may have: that of its clue, or all.
-fn domain(clue: u8) -> IntervalSet<u8> {
-    let (least, greatest) = if clue == b'.' { (1, 9) } else { (clue - b'0', clue - b'0') };
-    IntervalSet::new(Global, least, greatest).expect("memory for one run")
-}
-
-fn differ(x: usize, y: usize) -> bool {
-    let (row, column, other_row, other_column) = (x / 9, x % 9, y / 9, y % 9);
-    let is_one_box = row / 3 == other_row / 3 && column / 3 == other_column / 3;
-    x < y && (row == other_row || column == other_column || is_one_box)
-}
-
 pub fn main() {
-    let domains: Vec<IntervalSet<u8>> = CLUES.iter().flat_map(|row| row.bytes()).map(domain).collect();
-    let pairs = (0..81).flat_map(|y| (0..81).map(move |x| (x, y))).filter(|&(x, y)| differ(x, y));
-    let rules: Vec<Rule> = pairs.map(|(x, y)| Rule::Differs { x, y, by: 0 }).collect();
+    let mut sudoku = Model::new();
+    let cells = sudoku.variables(81, 1..=9u32);
+    for (cell, clue) in cells.iter().zip(CLUES.concat().chars()) {
+        if let Some(digit) = clue.to_digit(10) {
+            sudoku.restrict(*cell, digit);
+        }
+    }
+    for i in 0..9 {
+        sudoku.all_different(&cells[9 * i..9 * i + 9]);
+        sudoku.all_different(&[0, 1, 2, 3, 4, 5, 6, 7, 8].map(|j| cells[9 * j + i]));
+        sudoku.all_different(&[0, 1, 2, 9, 10, 11, 18, 19, 20].map(|j| cells[27 * (i / 3) + 3 * (i % 3) + j]));
+    }
 
     // a second solution would show that the clues do not tell enough
-    let found = solutions(Global, &domains, &rules, Limits { solutions: 2, nodes: 1_000_000 }).unwrap();
-    assert_eq!((found.points.len(), found.end), (1, End::All));
-    let digits: String = found.points[0].iter().map(|digit| char::from(b'0' + digit)).collect();
-    for row in 0..9 {
-        println!("{}", &digits[9 * row..9 * row + 9]);
+    let found = sudoku.solutions(Limits::default().solutions(2));
+    assert_eq!((found.len(), found.end()), (1, End::All));
+    for row in found[0].numbers().chunks(9) {
+        println!("{}", row.iter().map(u32::to_string).collect::<String>());
     }
-    assert!(digits.starts_with("812753649943682175675491283"));
+    assert!(found[0].numbers().starts_with(&[8, 1, 2, 7, 5, 3, 6, 4, 9]));
 
-    // a limit that does not suffice, and a rule that names no cell, are told
-    let few = solutions(Global, &domains, &rules, Limits { solutions: 2, nodes: 10 }).unwrap();
-    assert_eq!(few.end, End::Nodes);
-    let fault =
-        solutions(Global, &domains, &[Rule::Differs { x: 0, y: 81, by: 0 }], Limits { solutions: 2, nodes: 10 });
-    assert_eq!(fault.err(), Some(SearchFault::Variable(81)));
+    // a limit that does not suffice is told
+    assert_eq!(sudoku.count(Limits::default().nodes(10)).1, End::Nodes);
 }

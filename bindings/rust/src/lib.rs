@@ -24,9 +24,9 @@
 //! | make | `from` a range, or an array, slice or `Vec` of values, ranges, pairs or sets; `collect`, `parse`, [`new`](IntervalSet::new), [`singleton`](IntervalSet::singleton), [`empty`](IntervalSet::empty), [`whole`](IntervalSet::whole), [`limits`](IntervalSet::limits) |
 //! | read | [`size`](IntervalSet::size), [`interval_count`](IntervalSet::interval_count), [`is_empty`](IntervalSet::is_empty), [`is_singleton`](IntervalSet::is_singleton), [`lower`](IntervalSet::lower), [`upper`](IntervalSet::upper), [`first`](IntervalSet::first), [`last`](IntervalSet::last), [`runs`](IntervalSet::runs), [`iter`](IntervalSet::iter), [`len`](IntervalSet::len), [`size_within`](IntervalSet::size_within), [`intersection_size`](IntervalSet::intersection_size), [`union_size`](IntervalSet::union_size), [`difference_size`](IntervalSet::difference_size) |
 //! | test | `==`, `<`, [`contains`](IntervalSet::contains), [`includes`](IntervalSet::includes), [`overlaps`](IntervalSet::overlaps), [`overlap`](IntervalSet::overlap), [`is_disjoint`](IntervalSet::is_disjoint), [`is_subset`](IntervalSet::is_subset), [`is_proper_subset`](IntervalSet::is_proper_subset), [`is_superset`](IntervalSet::is_superset), [`is_proper_superset`](IntervalSet::is_proper_superset) |
-//! | search | [`next_from`](IntervalSet::next_from), [`previous_to`](IntervalSet::previous_to), [`run_at`](IntervalSet::run_at), [`runs_within`](IntervalSet::runs_within), [`first_fit`](IntervalSet::first_fit), [`first_fit_from`](IntervalSet::first_fit_from), [`best_fit`](IntervalSet::best_fit), [`gaps_within`](IntervalSet::gaps_within), [`rank`](IntervalSet::rank), [`nth`](IntervalSet::nth) |
-//! | combine | `\|`, `&`, `^`, `!`, `\|=`, [`union`](IntervalSet::union), [`intersection`](IntervalSet::intersection), [`difference`](IntervalSet::difference), [`symmetric_difference`](IntervalSet::symmetric_difference), [`complement`](IntervalSet::complement), [`hull`](IntervalSet::hull), [`union_of`](IntervalSet::union_of), [`intersection_of`](IntervalSet::intersection_of), [`within`](IntervalSet::within) |
-//! | edit | `extend`, [`insert`](IntervalSet::insert), [`remove`](IntervalSet::remove), [`insert_interval`](IntervalSet::insert_interval), [`remove_interval`](IntervalSet::remove_interval), [`clear`](IntervalSet::clear), [`pop_first`](IntervalSet::pop_first), [`pop_last`](IntervalSet::pop_last), [`append`](IntervalSet::append), [`retain`](IntervalSet::retain), [`retain_runs`](IntervalSet::retain_runs), [`take_first_fit`](IntervalSet::take_first_fit), [`split_off`](IntervalSet::split_off) |
+//! | search | [`next_from`](IntervalSet::next_from), [`previous_to`](IntervalSet::previous_to), [`run_at`](IntervalSet::run_at), [`runs_within`](IntervalSet::runs_within), [`first_fit`](IntervalSet::first_fit), [`first_fit_from`](IntervalSet::first_fit_from), [`first_fit_aligned`](IntervalSet::first_fit_aligned), [`last_fit`](IntervalSet::last_fit), [`best_fit`](IntervalSet::best_fit), [`gaps_within`](IntervalSet::gaps_within), [`rank`](IntervalSet::rank), [`nth`](IntervalSet::nth) |
+//! | combine | `\|`, `&`, `^`, `!`, `\|=`, [`union`](IntervalSet::union), [`intersection`](IntervalSet::intersection), [`difference`](IntervalSet::difference), [`symmetric_difference`](IntervalSet::symmetric_difference), [`complement`](IntervalSet::complement), [`hull`](IntervalSet::hull), [`union_of`](IntervalSet::union_of), [`intersection_of`](IntervalSet::intersection_of), [`within`](IntervalSet::within), [`shifted`](IntervalSet::shifted) |
+//! | edit | `extend`, [`insert`](IntervalSet::insert), [`remove`](IntervalSet::remove), [`insert_interval`](IntervalSet::insert_interval), [`remove_interval`](IntervalSet::remove_interval), [`clear`](IntervalSet::clear), [`close_gaps`](IntervalSet::close_gaps), [`pop_first`](IntervalSet::pop_first), [`pop_last`](IntervalSet::pop_last), [`append`](IntervalSet::append), [`retain`](IntervalSet::retain), [`retain_runs`](IntervalSet::retain_runs), [`take_first_fit`](IntervalSet::take_first_fit), [`split_off`](IntervalSet::split_off) |
 //! | iterate | [`range`](IntervalSet::range), [`into_runs`](IntervalSet::into_runs) |
 //! | arithmetic | `+`, `-`, `*`, [`checked_add`](IntervalSet::checked_add), [`fits_add`](IntervalSet::fits_add) and so on |
 //!
@@ -34,7 +34,9 @@
 //! that change: an edit moves the runs of one page, where that of an [`IntervalSet`] may move all runs above it. Calls with two sets take
 //! one of either kind.
 //!
-//! An [`IntervalMap`] has a value at each number of its runs: who holds which ids, which rule is for which addresses.
+//! An [`IntervalMap`] has a value at each number of its runs: who holds which ids, which rule is for which addresses. A
+//! [`solve::Model`] has variables over sets and rules between them, and finds all solutions, or the best: a sudoku takes
+//! [15 lines](solve#a-sudoku).
 //!
 //! # Values
 //!
@@ -115,6 +117,7 @@ pub use map::IntervalMap;
 /// ```
 #[doc(inline)]
 pub use proved::width::full::Full;
+#[doc(inline)]
 pub use proved::width::{SizeNumber, Width};
 #[doc(inline)]
 pub use set::{IntervalSet, PagedSet};

@@ -6,6 +6,7 @@ mod combining;
 pub(crate) mod conditions;
 mod conversions;
 mod edits;
+mod fits;
 pub(crate) mod iterators;
 pub(crate) mod making;
 mod operators;

@@ -62,6 +62,7 @@ fn the_root_panics_with_the_values() {
 
 #[test]
 fn paged_sets_panic_with_the_values() {
+    let address = |text: &str| text.parse::<std::net::Ipv4Addr>().unwrap();
     let set = || PagedSet::from(10..=20u8);
     panics! {
         set().insert(255) => "PagedSet::insert(255): the value must be from 0 to 254";
@@ -73,6 +74,10 @@ fn paged_sets_panic_with_the_values() {
         [3..=4, 0..=255].into_iter().collect::<PagedSet<u8>>() => "PagedSet::from_iter(0..=255): the numbers must be from 0 to 254";
         PagedSet::from([(1, 255u8)]) => "PagedSet::from(1..=255): the numbers must be from 0 to 254";
         PagedSet::from(9..=255u8) => "PagedSet::from(9..=255): the numbers must be from 0 to 254";
+        PagedSet::new('z', 'a') => "PagedSet::new('z', 'a'): the first bound must not be above the second, and both must be from '\\0' to '\\u{10ffff}'";
+        IntervalSet::new(address("10.0.0.9"), address("10.0.0.1")) => "IntervalSet::new(10.0.0.9, 10.0.0.1): the first bound must not be above the second, and both must be from 0.0.0.0 to 255.255.255.255";
+        PagedSet::from(address("10.0.0.9")..).first_fit_from(address("10.0.0.10"), 0) => "PagedSet::first_fit_from(10.0.0.10, 0): the count must be above 0";
+        IntervalSet::from('b'..='y').first_fit_from('c', 0) => "IntervalSet::first_fit_from('c', 0): the count must be above 0";
         PagedSet::new(3u8, 255) => "PagedSet::new(3, 255): the first bound must not be above the second, and both must be from 0 to 254";
         PagedSet::singleton(-128i8) => "PagedSet::singleton(-128): the value must be from -127 to 127";
         PagedSet::<u8>::empty().lower() => "PagedSet::lower(): the set must not be empty, but is {}";

@@ -105,7 +105,7 @@ impl<T: Width + std::fmt::Debug> Tried<T> {
 fn models_of<T: Width + std::fmt::Debug>(least: i128, seed: u64) {
     let mut random = Random(seed);
     let mut solved = 0;
-    for round in 0..if cfg!(debug_assertions) { 300 } else { 3000 } {
+    for round in 0..if cfg!(debug_assertions) { 100 } else { 3000 } {
         let mut tried = Tried::<T>::of(&mut random, least);
         for _ in 0..1 + random.below(3) {
             tried.add_rule(&mut random);
@@ -126,7 +126,7 @@ fn models_of<T: Width + std::fmt::Debug>(least: i128, seed: u64) {
         assert_eq!(number(tried.model.maximize(tried.variables[at], Limits::default())), greatest);
         solved += usize::from(!wanted.is_empty());
     }
-    assert!(solved > 50, "{solved}");
+    assert!(solved > 20, "{solved}");
 }
 
 #[test]
@@ -197,9 +197,10 @@ fn a_wrong_call_is_told_at_its_line() {
     let different = "the variables of a rule must be different";
     let known = "a variable must be one of the model";
     let base = model.clone();
-    #[allow(unused_mut)] // a search changes nothing
+    // a search changes nothing
     macro_rules! asks {
         ($($of:ident.$call:ident($($argument:expr),*) => $text:expr;)*) => {$(
+            #[allow(unused_mut)]
             let mut model = $of.clone();
             let (message, file, _) = told(|| _ = model.$call($($argument),*));
             assert_eq!((message, file.as_str()), (format!("Model::{}", $text), file!()));
@@ -217,7 +218,7 @@ fn a_wrong_call_is_told_at_its_line() {
         base.sum(&[x, far], y) => format!("sum(.. Variable(8) ..): {known}");
         base.no_overlap(&[(x, 1), (x, 1)]) => format!("no_overlap(.. Variable(0), Variable(0) ..): {different}");
         base.no_overlap(&[(x, 1), (y, 1)]) => "no_overlap(.. Variable(0), Variable(1) ..): the differences of the beginnings must be from 0 to 254";
-        base.restrict(far, &IntervalSet::whole()) => format!("restrict(.. Variable(8) ..): {known}");
+        base.restrict(far, 5) => format!("restrict(.. Variable(8) ..): {known}");
         base.minimize(far, Limits::default()) => format!("minimize(.. Variable(8) ..): {known}");
         all.no_overlap(&[(a, 1), (b, 1)]) => "no_overlap(.. Variable(0), Variable(1) ..): the differences of the beginnings must be from -127 to 127";
     }

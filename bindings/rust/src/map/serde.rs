@@ -57,7 +57,7 @@ impl<'de, T: Width + Deserialize<'de>, V: Clone + Eq + Deserialize<'de>> Visitor
 
 /// Tests that no two runs in ascending order have common numbers.
 fn apart<T: Width, V, E: Error>(entries: &[Entry<T, V>]) -> Result<(), E> {
-    let told = |run: Interval<T>| numbers_between(run.lower().number(), run.upper().number());
+    let told = |run: Interval<T>| numbers_between::<T>(run.lower().number(), run.upper().number());
     match entries.windows(2).find(|pair| pair[1].0.lower() <= pair[0].0.upper()) {
         None => Ok(()),
         Some(pair) => {

@@ -1,8 +1,10 @@
 //! Panics, failed allocations, and what the docs of sets of both kinds and of maps say otherwise of each.
-use crate::proved::width::Width;
+use crate::proved::width::{Width, addresses::address_of, characters::character_of};
 use crate::proved::{AllocError, Interval};
 use alloc::alloc::{Layout, handle_alloc_error};
+use core::any::type_name;
 use core::fmt::{self, Display};
+use core::net::Ipv4Addr;
 
 /// Returns the value of a call that fails only if allocation fails, or aborts as std does.
 pub fn memory<R>(result: Result<R, AllocError>) -> R {
@@ -27,15 +29,33 @@ impl<F: Fn(&mut fmt::Formatter<'_>) -> fmt::Result> Display for Told<F> {
 
 /// Returns the condition that some numbers are in the range.
 pub fn within_range<T: Width>(numbers: &str) -> impl Display {
-    let (least, greatest) = (T::min_value().number(), T::max_value().number());
+    let (least, greatest) = (written(T::min_value()), written(T::max_value()));
     Told(move |f: &mut fmt::Formatter<'_>| write!(f, "{numbers} must be from {least} to {greatest}"))
 }
 
-/// Returns the text `1..=5`, or `1` for one number.
-pub fn numbers_between(lower: i128, upper: i128) -> impl Display {
+/// Returns the text `1..=5` of the numbers of a type, or `1` for one number.
+pub fn numbers_between<T: Width>(lower: i128, upper: i128) -> impl Display {
+    let (first, last) = (text_of(type_name::<T>(), lower), text_of(type_name::<T>(), upper));
     Told(move |f: &mut fmt::Formatter<'_>| match lower == upper {
-        true => write!(f, "{lower}"),
-        false => write!(f, "{lower}..={upper}"),
+        true => write!(f, "{first}"),
+        false => write!(f, "{first}..={last}"),
+    })
+}
+
+/// Returns the text of a value: that of its number, unless it is a character or an address.
+pub fn written<T: Width>(value: T) -> impl Display {
+    text_of(type_name::<T>(), value.number())
+}
+
+/// Returns the text of a number of the type of a name.
+// a type of bounds need not have a text of its own
+pub fn text_of(name: &'static str, number: i128) -> impl Display {
+    let character = if name == type_name::<char>() { character_of(number) } else { None };
+    let address = if name == type_name::<Ipv4Addr>() { address_of(number) } else { None };
+    Told(move |f: &mut fmt::Formatter<'_>| match (character, address) {
+        (Some(character), _) => write!(f, "{character:?}"),
+        (_, Some(address)) => write!(f, "{address}"),
+        _ => write!(f, "{number}"),
     })
 }
 

@@ -1,6 +1,6 @@
 //! Edits in place.
 use super::below::Proved as _;
-use super::conditions::{broken, contract, cost, memory, unless_broken, within_range};
+use super::conditions::{broken, contract, cost, memory, unless_broken, within_range, written};
 use super::iterators::members_of;
 use super::making::{gathered, interval_of, intervals_of};
 use super::reads::{ABOVE_0, as_range};
@@ -27,7 +27,7 @@ macro_rules! edits {
             #[doc = contract!($Set "insert")]
             #[track_caller]
             pub fn insert(&mut self, value: T) -> bool {
-                unless_broken!($Set: self.checked_insert(value), within_range::<T>("the value"), "insert({})", value.number())
+                unless_broken!($Set: self.checked_insert(value), within_range::<T>("the value"), "insert({})", written(value))
             }
 
             /// Returns [`insert`](Self::insert), or `None` if its condition does not hold.

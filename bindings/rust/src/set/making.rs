@@ -1,5 +1,5 @@
 //! Sets from bounds, and from pieces.
-use super::conditions::{broken, contract, memory, numbers_between, unless_broken, within_range};
+use super::conditions::{broken, contract, memory, numbers_between, unless_broken, within_range, written};
 use super::{IntervalSet, PagedSet, Piece, Pieces};
 use crate::proved::{Global, Interval, ops::Range as _, sweep::coalesce, width::Width};
 use alloc::vec::Vec;
@@ -35,7 +35,7 @@ macro_rules! making {
             #[track_caller]
             pub fn new(lower: T, upper: T) -> Self {
                 let condition = within_range::<T>("the first bound must not be above the second, and both");
-                unless_broken!($Set: Self::checked_new(lower, upper), condition, "new({}, {})", lower.number(), upper.number())
+                unless_broken!($Set: Self::checked_new(lower, upper), condition, "new({}, {})", written(lower), written(upper))
             }
 
             /// Returns [`new`](Self::new), or `None` if its condition does not hold.
@@ -63,7 +63,7 @@ macro_rules! making {
             #[track_caller]
             pub fn singleton(value: T) -> Self {
                 let condition = within_range::<T>("the value");
-                unless_broken!($Set: Self::checked_singleton(value), condition, "singleton({})", value.number())
+                unless_broken!($Set: Self::checked_singleton(value), condition, "singleton({})", written(value))
             }
 
             /// Returns [`singleton`](Self::singleton), or `None` if its condition does not hold.
@@ -198,5 +198,5 @@ pub(crate) fn interval_of<T: Width>(set: &str, call: &str, piece: &impl Piece<T>
 #[cold]
 #[track_caller]
 pub(super) fn outside<T: Width>(set: &str, call: &str, lower: i128, upper: i128) -> ! {
-    broken(set, format_args!("{call}({})", numbers_between(lower, upper)), within_range::<T>("the numbers"))
+    broken(set, format_args!("{call}({})", numbers_between::<T>(lower, upper)), within_range::<T>("the numbers"))
 }

@@ -1,6 +1,6 @@
 //! Operators: `|`, `&`, `^` and `!` of sets, and the arithmetic `+`, `-` and `*` of their members.
 use super::below::{Operation, Proved as _};
-use super::conditions::{Told, broken, contract, memory, numbers_between, unless_broken, within_range};
+use super::conditions::{Told, broken, contract, memory, numbers_between, unless_broken, within_range, written};
 use super::{AnySet, IntervalSet, PagedSet};
 use crate::proved::{ops::Fits, width::Width};
 use core::fmt::{self, Display};
@@ -11,7 +11,7 @@ use core::ops::{Mul, MulAssign, Not, Sub, SubAssign};
 fn hull<T: Width>(set: &IntervalSet<T>) -> impl Display {
     let ends = set.checked_lower().zip(set.checked_upper());
     Told(move |f: &mut fmt::Formatter<'_>| match ends {
-        Some((lower, upper)) => numbers_between(lower.number(), upper.number()).fmt(f),
+        Some((lower, upper)) => numbers_between::<T>(lower.number(), upper.number()).fmt(f),
         None => f.write_str("{}"),
     })
 }
@@ -255,7 +255,7 @@ macro_rules! arithmetic {
             #[track_caller]
             fn $call(self, value: T) -> IntervalSet<T> {
                 unless_broken!(IntervalSet: self.$checked_value(value), within_range::<T>(concat!("the ", $results)),
-                    "{}({}, {})", stringify!($call), hull(self), value.number())
+                    "{}({}, {})", stringify!($call), hull(self), written(value))
             }
         }
 

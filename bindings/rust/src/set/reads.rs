@@ -1,6 +1,6 @@
 //! Queries.
 use super::below::{have_common, is_within};
-use super::conditions::{broken, contract, cost, unless_broken};
+use super::conditions::{broken, contract, cost, unless_broken, written};
 use super::iterators::{IntoRuns, Iter, Members, PagedIter, PagedRange, PagedRuns, PagedRunsWithin, Range, Runs};
 use super::{AnySet, IntervalSet, PagedSet, Piece, below::Operand as _, paged::Lacking as _};
 use crate::proved::Interval;
@@ -345,7 +345,7 @@ macro_rules! reads {
             #[track_caller]
             pub fn first_fit_from(&self, value: T, count: T::Output) -> Option<RangeInclusive<T>> {
                 let fit = self.checked_first_fit_from(value, count);
-                unless_broken!($Set: fit, ABOVE_0, "first_fit_from({}, 0)", value.number())
+                unless_broken!($Set: fit, ABOVE_0, "first_fit_from({}, 0)", written(value))
             }
 
             /// Returns [`first_fit_from`](Self::first_fit_from), or `None` if its condition does not hold.

@@ -4,7 +4,7 @@
 //! What is read may have its runs in any order, and they may overlap or touch; a run that crosses is an error, as in a map and in
 //! `parse`. Formats for people may have `null` for the empty set, and for a run without numbers, as the original writes them.
 //! Room is reserved as runs come, and not for the number of runs that the input claims.
-use super::conditions::{memory, numbers_between, within_range};
+use super::conditions::{memory, numbers_between, within_range, written};
 use super::{IntervalSet, PagedSet};
 use crate::proved::ops::Range;
 use crate::proved::{Global, Interval, sweep::coalesce, width::Width};
@@ -116,7 +116,7 @@ pub(crate) fn run_between<T: Width, E: Error>(lower: T, upper: T) -> Result<Inte
     match lower <= upper {
         true => Ok(Interval::new(lower, upper)),
         false => {
-            let run = numbers_between(lower.number(), upper.number());
+            let run = numbers_between::<T>(lower.number(), upper.number());
             Err(E::custom(format_args!("{run}: a run must not cross")))
         }
     }
@@ -127,7 +127,7 @@ fn bound<T: Width, E: Error>(value: T) -> Result<T, E> {
     let is_in_range = Interval::in_range(value, value);
     is_in_range
         .then_some(value)
-        .ok_or_else(|| E::custom(format_args!("{}: {}", value.number(), within_range::<T>("a bound"))))
+        .ok_or_else(|| E::custom(format_args!("{}: {}", written(value), within_range::<T>("a bound"))))
 }
 
 macro_rules! form {

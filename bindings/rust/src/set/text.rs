@@ -1,7 +1,9 @@
 //! The texts of sets.
+use super::conditions::text_of;
 use super::{IntervalSet, PagedSet};
 use crate::proved::{Interval, ops::Range as _, width::Width};
 use alloc::{format, vec::Vec};
+use core::any::type_name;
 use core::fmt::{self, Debug, Display};
 use core::str::FromStr;
 
@@ -57,7 +59,7 @@ pub struct ParseSetError {
 enum Wanted {
     Set,
     Run,
-    Bounds(i128, i128),
+    Bounds(&'static str, i128, i128),
 }
 
 impl ParseSetError {
@@ -81,7 +83,8 @@ impl Display for ParseSetError {
         match self.wanted {
             Wanted::Set => f.write_str("a set is written as {}, [1..5] or {[1..2][5..5]}"),
             Wanted::Run => f.write_str("a run is written as [1..5], with two bounds of the type"),
-            Wanted::Bounds(least, greatest) => {
+            Wanted::Bounds(kind, least, greatest) => {
+                let (least, greatest) = (text_of(kind, least), text_of(kind, greatest));
                 write!(f, "a run must be from a lower to an upper bound, both from {least} to {greatest}")
             }
         }
@@ -103,7 +106,7 @@ fn runs_of<T: Width + FromStr>(text: &str) -> Result<Vec<Interval<T>>, ParseSetE
         let at = text.len() - rest.len();
         let (lower, upper, after) = run_of::<T>(rest).ok_or(fault(at, Wanted::Run))?;
         if !(lower <= upper && Interval::in_range(lower, upper)) {
-            return Err(fault(at, Wanted::Bounds(T::min_value().number(), T::max_value().number())));
+            return Err(fault(at, Wanted::Bounds(type_name::<T>(), T::min_value().number(), T::max_value().number())));
         }
         runs.push(Interval::new(lower, upper));
         rest = after;

@@ -3,9 +3,9 @@ use super::rules::{Apart, Sum};
 use crate::IntervalSet;
 use crate::proved::ivl_rules::rules::Rule;
 use crate::proved::width::Width;
+use crate::set::Pieces;
 use crate::set::conditions::{broken, contract};
 use crate::set::making::gathered;
-use crate::set::{AnySet, Pieces};
 use alloc::vec::Vec;
 use core::fmt::{self, Debug};
 
@@ -101,7 +101,7 @@ impl<T: Width> Model<T> {
         &self.domains[self.known("domain", variable)]
     }
 
-    /// Removes what is not in a set from the domain of a variable.
+    /// Removes what is not in a range or a set, or is not a number, from the domain of a variable. All numbers must be within the limits.
     ///
     /// ```
     /// # use intervallum::solve::Model;
@@ -109,13 +109,14 @@ impl<T: Width> Model<T> {
     /// let mut model = Model::new();
     /// let x = model.variable(1..=9);
     /// model.restrict(x, &IntervalSet::from([3..=5, 20..=30]));
-    /// assert_eq!(model.domain(x).to_string(), "[3..5]");
+    /// model.restrict(x, 4..);
+    /// assert_eq!(model.domain(x).to_string(), "[4..5]");
     /// ```
     #[doc = contract!(IntervalSet "intersection")]
     #[track_caller]
-    pub fn restrict(&mut self, variable: Variable, set: &impl AnySet<T>) {
+    pub fn restrict(&mut self, variable: Variable, domain: impl Pieces<T>) {
         let index = self.known("restrict", variable);
-        self.domains[index] = self.domains[index].intersection(set);
+        self.domains[index] &= IntervalSet::of_intervals(gathered("Model", "restrict", [domain]));
     }
 
     /// Returns the index of a variable, which has to be one of the model.

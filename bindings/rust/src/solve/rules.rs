@@ -128,7 +128,7 @@ impl<T: Width> Model<T> {
             broken("Model", call, within_range::<T>("the sums"));
         }
         match sum.terms[..] {
-            [] => self.restrict(total, &IntervalSet::from((T::zero(), T::zero()))),
+            [] => self.restrict(total, T::zero()),
             [x] => self.rules.push(Rule::Shifted { x, y: sum.total, by: 0 }),
             _ => self.sums.push(sum),
         }
