@@ -74,6 +74,9 @@ def main(program):
     for words in (["--frob"], ["frob"], ["--memory"], ["--memory", "much"], ["--memory=5X"], ["--seconds"], ["--seconds", "0"], ["--seconds=x"]):
         status, text, told = said(words)
         expect(words, (status, text, bool(told)), (2, b"", True))
+    expect("an unknown program", said(["frob"])[2].split(b";")[0], b"run: there is no program frob")
+    expect("an argument of a program", said(["solve", "frob"])[2].split(b";")[0], b"run: ./run solve takes no argument frob")
+    expect("too little memory", said(["--memory", "1"]), (2, b"", LEAD + b"run: --memory is too little for the program to start: 0 K\n"))
     expect("a pipe", said([], b"set a 1 5\nquit\nshow a"), (0, b"ok\nbad line\n[1..5]\n", LEAD))
     expect("a limit", said(["--memory", "200M"], LARGE), (0, b"ok\n" * 6 + b"refused 4 memory\n0\nok\n[1..5]\n", LEAD))
     status, written, told = said(["--seconds", "1"], LONG)
