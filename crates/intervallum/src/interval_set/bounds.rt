@@ -21,7 +21,7 @@ impl<B: Width> IntervalSet<B> {
     /// ```
     pub fn singleton(alloc: Global, x: B) -> Result<Self, AllocError>
         requires { IsBetween B.whole (B.value x) }
-        // On success, the result is the one number `x`.
+        // On success, the only member is `x`.
         ensures { IfOk result (λ L. L ≡ (B.value x, B.value x) ∷ []) }
     {
         Self::new(alloc, x, x)
