@@ -1,4 +1,4 @@
-//! 100,000 random operations on paged sets beside a `BTreeSet`, each answer compared.
+//! Random operations on paged sets beside a `BTreeSet`, each answer compared.
 use intervallum::proved::interval_set::{IntervalSet, ToIntervalSet};
 use intervallum::proved::ivl_paged::PagedSet;
 use intervallum::proved::ops::{Bounded, Complement, Difference, Intersection, Range, SymmetricDifference, Union};

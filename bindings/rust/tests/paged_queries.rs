@@ -1,4 +1,4 @@
-//! 100,000 random queries of a paged set beside a `BTreeSet`: of intervals, and of a second set in pages and in one list.
+//! Random queries of a paged set beside a `BTreeSet`: of intervals, and of a second set in pages and in one list.
 use intervallum::proved::Global;
 use intervallum::proved::ivl_paged::PagedSet;
 use intervallum::proved::prelude::*;
