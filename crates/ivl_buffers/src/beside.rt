@@ -13,6 +13,8 @@ use crate::sorted_lookup::{pair_at, search};
 /// Writes a member that is at most `v`, and the greatest one if the list is sorted. Returns whether
 /// it found one. `O(log n)`, does not allocate.
 pub fn previous_to<R: Pair>(runs: &[R], v: R::Bound, found: &mut R::Bound) -> bool
+    // After true the number written is a member that is at most `v`; after false nothing is written. If the list is in
+    // order, the number is the greatest such member, and false says that there is none.
     ensures member { IsTrue result → AtMost (R.Bound.value v) (Covers (map R.pair runs.now)) (R.Bound.value found.new) }
     ensures same { result ≡ false → R.Bound.value found.new ≡ R.Bound.value found.old }
     ensures in_order { IsInOrder (map R.pair runs.now)
@@ -55,6 +57,8 @@ fn greatest_in<R: Pair>(run: R, v: R::Bound) -> Option<R::Bound>
 /// Returns whether it found one: exactly when `v` is a member, if the list is sorted. `O(log n)`,
 /// does not allocate.
 pub fn run_at<R: Pair>(runs: &[R], v: R::Bound, found: &mut R) -> bool
+    // After true the pair written holds `v`, and its numbers are members; after false nothing is written. If the list
+    // is in order, true exactly when `v` is a member; of a list of runs, the pair is the run.
     ensures member { IsTrue result → IsBetween (R.pair found.new) (R.Bound.value v) × IsSubset (IsBetween (R.pair found.new)) (Covers (map R.pair runs.now)) }
     ensures same { result ≡ false → R.pair found.new ≡ R.pair found.old }
     ensures in_order { IsInOrder (map R.pair runs.now) → (IsTrue result ↔ Covers (map R.pair runs.now) (R.Bound.value v)) }

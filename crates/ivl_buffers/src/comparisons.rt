@@ -27,6 +27,8 @@ pub enum Asking {
 
 /// Returns 1 for yes, 0 for no, or an error code.
 pub fn ask<R: Pair>(alloc: Global, asking: Asking, a: &[R], b: &[R]) -> i64
+    // The result is `out_of_range` exactly when a member is outside the range; else 1 if what is asked holds of the
+    // members and 0 if not, or `out_of_memory`.
     ensures { AnswersQuestion R.Bound.whole (Union (Covers (map R.pair a.now)) (Covers (map R.pair b.now)))
         (HoldsOf asking (Covers (map R.pair a.now)) (Covers (map R.pair b.now))) result }
 {
@@ -93,6 +95,8 @@ fn asked<R: Pair>(alloc: Global, asking: Asking, a: &[R], b: &[R]) -> Result<boo
 
 /// Writes the number of members and returns 0, or returns an error code.
 pub fn count<R: Pair>(alloc: Global, a: &[R], size: &mut <R::Bound as Width>::Output) -> i64
+    // The result is `out_of_range` exactly when a member is outside the range; else the number of members is written,
+    // and 0 returned, or it is `out_of_memory`. With a code nothing is written.
     ensures { AnswersSize R.Bound.whole (Covers (map R.pair a.now))
         (R.Bound.Output.size size.old) (R.Bound.Output.size size.new) result }
 {

@@ -23,6 +23,9 @@ pub enum Editing {
 /// Adds or removes a run. The list is the first `n` pairs of the buffer, and what is made of it is
 /// written to the same buffer. Returns the number of runs or an error code.
 pub fn edit<R: Pair>(alloc: Global, editing: Editing, buffer: &mut [R], n: usize, run: R) -> i64
+    // The result is `out_of_range` exactly when a number of the first `n` pairs or of the run is outside the range;
+    // else the runs of the members of these pairs with the numbers of the run, or without them, are written if there is
+    // room, and their number is returned, or it is `out_of_memory`. With a code nothing is written.
     ensures { AnswersSet R.Bound.whole (Union (Covers (take n (map R.pair buffer.old))) (IsBetween (R.pair run)))
         (EditedBy editing (R.pair run) (Covers (take n (map R.pair buffer.old))))
         (map R.pair buffer.old) (map R.pair buffer.new) result }

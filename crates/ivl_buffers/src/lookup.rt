@@ -15,6 +15,8 @@ use std::alloc::{AllocError, Global};
 /// Writes the least member that is at least `v`. Returns true exactly when there is one. `O(n)`,
 /// does not allocate.
 pub fn next_from<R: Pair>(runs: &[R], v: R::Bound, found: &mut R::Bound) -> bool
+    // After true the number written is the least member that is at least `v`; after false there is none, and nothing is
+    // written.
     ensures { AnswersNext (R.Bound.value v) (Covers (map R.pair runs.now)) (R.Bound.value found.old) (R.Bound.value found.new) result }
 {
     match least_from(runs, v) {
@@ -39,6 +41,7 @@ fn least_from<R: Pair>(runs: &[R], v: R::Bound) -> Option<R::Bound>
 
 /// Returns the least number of a pair that is at least `v`.
 pub fn least_in<R: Pair>(run: R, v: R::Bound) -> Option<R::Bound>
+    // The result is the least number of the run that is at least `v`, or `None` if there is none.
     ensures { IsNextIn (R.Bound.value v) (IsBetween (R.pair run)) (option_map R.Bound.value result) }
 {
     let lower = run.lower();
@@ -70,6 +73,9 @@ pub fn first_fit<R: Pair>(
     count: <R::Bound as Width>::Output,
     found: &mut R,
 ) -> i64
+    // The result is `out_of_range` exactly when a member is outside the range; else the lowest `count` members in a row
+    // are written, and 1 returned, or there are none, and 0 is returned, or it is `out_of_memory`. Without 1 nothing is
+    // written.
     ensures { AnswersFit R.Bound.whole (R.Bound.Output.size count) (Covers (map R.pair a.now)) (R.pair found.old) (R.pair found.new) result }
 {
     if !are_inside(a) {

@@ -17,6 +17,8 @@ pub fn intersection<R: Pair>(a: &[R], b: &[R], out: &mut [R]) -> usize
     requires first { IsRunListIn R.Bound.whole (map R.pair a.now) }
     requires second { IsRunListIn R.Bound.whole (map R.pair b.now) }
     requires counted { length a.now + length b.now < 2 ^ 63 }
+    // The runs of exactly the numbers in both lists are laid in the slice, as many as it has places, and the number of
+    // all is returned.
     ensures runs { (L : List (ℤ × ℤ)) × IsLaid (Intersection (Covers (map R.pair a.now)) (Covers (map R.pair b.now)))
         (map R.pair out.old) (map R.pair out.new) result L }
     ensures at_most { result ≤ length a.now + length b.now }
@@ -31,6 +33,8 @@ pub fn difference<R: Pair>(a: &[R], b: &[R], out: &mut [R]) -> usize
     requires first { IsRunListIn R.Bound.whole (map R.pair a.now) }
     requires second { IsRunListIn R.Bound.whole (map R.pair b.now) }
     requires counted { length a.now + length b.now < 2 ^ 63 }
+    // The runs of exactly the numbers in `a` and not in `b` are laid in the slice, as many as it has places, and the
+    // number of all is returned.
     ensures runs { (L : List (ℤ × ℤ)) × IsLaid (Without (Covers (map R.pair a.now)) (Covers (map R.pair b.now)))
         (map R.pair out.old) (map R.pair out.new) result L }
     ensures at_most { result ≤ length a.now + length b.now }
@@ -44,6 +48,8 @@ pub fn difference<R: Pair>(a: &[R], b: &[R], out: &mut [R]) -> usize
 pub fn complement<R: Pair>(runs: &[R], out: &mut [R]) -> usize
     requires runs { IsRunListIn R.Bound.whole (map R.pair runs.now) }
     requires counted { length runs.now < 2 ^ 62 }
+    // The runs of exactly the numbers of the range that are not in the list are laid in the slice, as many as it has
+    // places, and the number of all is returned, at most one more than the list has.
     ensures runs { (L : List (ℤ × ℤ)) × IsLaid (Complement R.Bound.whole (Covers (map R.pair runs.now))) (map R.pair out.old) (map R.pair out.new) result L }
     ensures at_most { result ≤ length runs.now + 1 }
 {
@@ -57,6 +63,8 @@ pub fn union<R: Pair>(a: &[R], b: &[R], out: &mut [R]) -> usize
     requires first { IsRunListIn R.Bound.whole (map R.pair a.now) }
     requires second { IsRunListIn R.Bound.whole (map R.pair b.now) }
     requires counted { length a.now + length b.now < 2 ^ 63 }
+    // The runs of exactly the numbers in either list are laid in the slice, as many as it has places, and the number of
+    // all is returned.
     ensures runs { (L : List (ℤ × ℤ)) × IsLaid (Union (Covers (map R.pair a.now)) (Covers (map R.pair b.now)))
         (map R.pair out.old) (map R.pair out.new) result L }
     ensures at_most { result ≤ length a.now + length b.now }
@@ -71,6 +79,8 @@ pub fn symmetric_difference<R: Pair>(a: &[R], b: &[R], out: &mut [R]) -> usize
     requires first { IsRunListIn R.Bound.whole (map R.pair a.now) }
     requires second { IsRunListIn R.Bound.whole (map R.pair b.now) }
     requires counted { length a.now + length b.now < 2 ^ 63 }
+    // The runs of exactly the numbers in either list and not in both are laid in the slice, as many as it has places,
+    // and the number of all is returned.
     ensures runs { (L : List (ℤ × ℤ)) × IsLaid (SymmetricDifference (Covers (map R.pair a.now)) (Covers (map R.pair b.now)))
         (map R.pair out.old) (map R.pair out.new) result L }
     ensures at_most { result ≤ length a.now + length b.now }

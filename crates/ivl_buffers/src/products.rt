@@ -15,6 +15,9 @@ use std::alloc::{AllocError, Global};
 
 /// Makes the set of the products, and writes its runs. Returns their number or an error code.
 pub fn products<R: Pair>(alloc: Global, a: &[R], b: &[R], out: &mut [R]) -> i64
+    // The result is `out_of_range` exactly when a member is outside the range; else `product_out_of_range` only if a
+    // product of a member of each is, or `out_of_memory`, or the runs of the products are written if there is room, and
+    // their number is returned. With a code nothing is written.
     ensures { AnswersProducts R.Bound.whole (Covers (map R.pair a.now)) (Covers (map R.pair b.now)) (map R.pair out.old) (map R.pair out.new) result }
 {
     if !are_inside(a) || !are_inside(b) {

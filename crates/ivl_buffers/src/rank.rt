@@ -18,6 +18,8 @@ pub fn rank<R: Pair>(
     v: R::Bound,
     found: &mut <R::Bound as Width>::Output,
 ) -> i64
+    // The result is `out_of_range` exactly when a member is outside the range; else the number of members below `v` is
+    // written, and 0 returned, or it is `out_of_memory`. With a code nothing is written.
     ensures { AnswersRank R.Bound.whole (R.Bound.value v) (Covers (map R.pair a.now))
         (R.Bound.Output.size found.old) (R.Bound.Output.size found.new) result }
 {
@@ -54,6 +56,9 @@ pub fn nth<R: Pair>(
     i: <R::Bound as Width>::Output,
     found: &mut R::Bound,
 ) -> i64
+    // The result is `out_of_range` exactly when a member is outside the range; else the member with exactly `i` members
+    // below it is written, and 1 returned, or there are no more than `i` members, and 0 is returned, or it is
+    // `out_of_memory`. Without 1 nothing is written.
     ensures { AnswersNth R.Bound.whole (R.Bound.Output.size i) (Covers (map R.pair a.now))
         (R.Bound.value found.old) (R.Bound.value found.new) result }
 {

@@ -14,6 +14,7 @@ use std::alloc::{AllocError, Global};
 
 /// Returns true exactly when each member of the pairs is in the range.
 pub fn are_inside<R: Pair>(runs: &[R]) -> bool
+    // True exactly when each number of the pairs is in the range.
     ensures { IsTrue result ↔ IsSubset (Covers (map R.pair runs.now)) (IsBetween R.Bound.whole) }
 {
     for run in runs {
@@ -41,6 +42,7 @@ fn is_crossed<R: Pair>(run: R) -> bool
 /// Returns the set of the members of the pairs.
 pub fn set_of<R: Pair>(alloc: Global, runs: &[R]) -> Result<IntervalSet<R::Bound>, AllocError>
     requires { IsSubset (Covers (map R.pair runs.now)) (IsBetween R.Bound.whole) }
+    // On success, the members are exactly the numbers of the pairs.
     ensures { IfOk result (λ L. IsRunsOf L (Covers (map R.pair runs.now))) }
 {
     let mut list = Vec::with_capacity(alloc, runs.len())?;
@@ -64,6 +66,7 @@ pub(crate) fn interval_of<R: Pair>(run: R) -> Interval<R::Bound>
 
 /// Returns true exactly when some pair of the list has the number. `O(n)`, does not allocate.
 pub fn contains<R: Pair>(runs: &[R], v: R::Bound) -> bool
+    // True exactly when some pair has the number.
     ensures { IsTrue result ↔ Covers (map R.pair runs.now) (R.Bound.value v) }
 {
     for run in runs {

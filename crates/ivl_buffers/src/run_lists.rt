@@ -14,6 +14,7 @@ use ivl_merges::merges::one_if;
 /// Returns true exactly when no pair is crossed, the pairs ascend with at least one number missing
 /// between neighbours, and all are in the range. `O(n)`, does not allocate.
 pub fn is_run_list<R: Pair>(runs: &[R]) -> bool
+    // True exactly when the pairs are not crossed, ascend, lie in the range, and neither overlap nor touch.
     ensures { IsTrue result ↔ IsRunListIn R.Bound.whole (map R.pair runs.now) }
 {
     has_ends(runs) & are_linked(runs)
@@ -190,6 +191,7 @@ fn is_below<R: Pair>(run: R, next: R) -> bool
 pub fn leaves_free<R: Pair>(last: R, run: R) -> bool
     requires last { IsRunIn R.Bound.whole (R.pair last) }
     requires run { IsRunIn R.Bound.whole (R.pair run) }
+    // True exactly when a number lies between the end of `last` and the start of `run`.
     ensures { IsTrue result ↔ (((R.pair last).1 +ℤ pos 2) ≤ℤ (R.pair run).0) }
 {
     let (end, start) = (last.upper(), run.lower());

@@ -39,6 +39,9 @@ pub enum OfTwo {
 
 /// Makes a set of one list, and writes its runs. Returns their number or an error code.
 pub fn of_one<R: Pair>(alloc: Global, making: OfOne, a: &[R], out: &mut [R]) -> i64
+    // The result is `out_of_range` exactly when a member is outside the range; else the runs of what is made of the
+    // members are written if there is room, and their number is returned, or it is `out_of_memory`. With a code nothing
+    // is written.
     ensures { AnswersSet R.Bound.whole (Covers (map R.pair a.now))
         (MadeOfOne R.Bound.whole making (Covers (map R.pair a.now))) (map R.pair out.old) (map R.pair out.new) result }
 {
@@ -98,6 +101,9 @@ fn walk_rest<R: Pair>(a: &[R], out: &mut [R]) -> i64
 
 /// Makes a set of two lists, and writes its runs. Returns their number or an error code.
 pub fn of_two<R: Pair>(alloc: Global, making: OfTwo, a: &[R], b: &[R], out: &mut [R]) -> i64
+    // The result is `out_of_range` exactly when a member of either list is outside the range; else the runs of what is
+    // made of the members are written if there is room, and their number is returned, or it is `out_of_memory`. With a
+    // code nothing is written.
     ensures { AnswersSet R.Bound.whole (Union (Covers (map R.pair a.now)) (Covers (map R.pair b.now)))
         (MadeOfTwo making (Covers (map R.pair a.now)) (Covers (map R.pair b.now))) (map R.pair out.old) (map R.pair out.new) result }
 {

@@ -13,6 +13,7 @@ pub use ivl_merges::merges::pair_at;
 /// Returns true only if some pair of the list has the number, and exactly then if the list is
 /// sorted. `O(log n)`, does not allocate.
 pub fn contains<R: Pair>(runs: &[R], v: R::Bound) -> bool
+    // After true `v` is a member; if the list is in order, true exactly when it is.
     ensures member { IsTrue result → Covers (map R.pair runs.now) (R.Bound.value v) }
     ensures in_order { IsInOrder (map R.pair runs.now) → (IsTrue result ↔ Covers (map R.pair runs.now) (R.Bound.value v)) }
 {
@@ -23,6 +24,8 @@ pub fn contains<R: Pair>(runs: &[R], v: R::Bound) -> bool
 /// Writes a member that is at least `v`, and the least one if the list is sorted. Returns whether
 /// it found one. `O(log n)`, does not allocate.
 pub fn next_from<R: Pair>(runs: &[R], v: R::Bound, found: &mut R::Bound) -> bool
+    // After true the number written is a member that is at least `v`; after false nothing is written. If the list is in
+    // order, the number is the least such member, and false says that there is none.
     ensures member { IsTrue result → AtLeast (R.Bound.value v) (Covers (map R.pair runs.now)) (R.Bound.value found.new) }
     ensures same { result ≡ false → R.Bound.value found.new ≡ R.Bound.value found.old }
     ensures in_order { IsInOrder (map R.pair runs.now)

@@ -24,6 +24,9 @@ pub enum Adding {
 
 /// Makes the set of the sums or differences that are in the range, and writes its runs.
 pub fn of_members<R: Pair>(alloc: Global, adding: Adding, a: &[R], b: &[R], out: &mut [R]) -> i64
+    // The result is `out_of_range` exactly when a member of either list is outside the range; else the runs of the
+    // sums, or by `adding` the differences, that are in the range are written if there is room, and their number is
+    // returned, or it is `out_of_memory`. With a code nothing is written.
     ensures { AnswersSet R.Bound.whole (Union (Covers (map R.pair a.now)) (Covers (map R.pair b.now)))
         (AddedBy R.Bound.whole adding (Covers (map R.pair a.now)) (Covers (map R.pair b.now))) (map R.pair out.old) (map R.pair out.new) result }
 {

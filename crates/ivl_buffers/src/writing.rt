@@ -19,6 +19,8 @@ pub const PRODUCT_OUT_OF_RANGE: i64 = -3;
 /// Writes the runs of a set if there is room for all, and returns their number. Returns a code if
 /// making the set failed, or if the number does not fit `i64`.
 pub fn tell<R: Pair>(made: Result<IntervalSet<R::Bound>, AllocError>, out: &mut [R]) -> i64
+    // Either the result is `out_of_memory`, and nothing is written; or there is a set, whose runs are written if there
+    // is room, and their number is returned.
     ensures { Refuses out_of_memory (map R.pair out.old) (map R.pair out.new) result
         ⊎ IsOkAnd made (λ L. (result ≡ pos (length L)) × (map R.pair out.new ≡ written L (map R.pair out.old))) }
 {

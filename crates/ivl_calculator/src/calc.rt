@@ -44,6 +44,7 @@ impl<B: Width> Calc<B> {
     ///
     /// Fails only if allocation fails.
     pub fn new(alloc: Global, registers: usize) -> Result<Calc<B>, AllocError>
+        // On success, each of so many registers has the empty set.
         ensures { IfOk result (λ c. c ≡ replicate registers []) }
     {
         let mut sets = Vec::with_capacity(alloc, registers)?;
@@ -58,6 +59,7 @@ impl<B: Width> Calc<B> {
 
     /// Returns the number of registers, which never changes. `O(1)`, does not allocate.
     pub fn registers(&self) -> usize
+        // The result is the number of registers.
         ensures { result ≡ length self.now }
     {
         self.registers.len()
@@ -66,6 +68,7 @@ impl<B: Width> Calc<B> {
     /// Returns the set in a register, or `None` if there is no such register. `O(1)`, does not
     /// allocate.
     pub fn get(&self, register: usize) -> Option<&IntervalSet<B>>
+        // The result is the set of the register, or `None` exactly when there is no such register.
         ensures known { IsSome result ↔ (register < length self.now) }
         ensures value { IfSome result (λ set. set.now ≡ slice_index_or self.now register []) }
     {
@@ -99,6 +102,7 @@ impl<B: Width> Calc<B> {
     /// assert_eq!(rt; calc.apply(&Command::Plus(1, 2, 2)), Reply::Cut(false));
     /// ```
     pub fn apply(&mut self, command: &Command<B>) -> Reply<B>
+        // Over plain sets of numbers, the command may get this reply and leave these registers.
         ensures { MayStep B.whole self.old (action_of B.value command.now) (answer_of B.value B.Output.size result) self.new }
     {
         match command {
@@ -148,6 +152,8 @@ impl<B: Width> Calc<B> {
     /// assert_eq!(rt; replies, vec![in alloc; Reply::Done, Reply::Size(4)]?);
     /// ```
     pub fn run(&mut self, commands: &[Command<B>]) -> Result<Vec<Reply<B>>, AllocError>
+        // On success, the commands may, one after another, get these replies and leave these registers; on an error the
+        // registers are unchanged.
         ensures ran { IfOk result (λ replies. Run B.whole self.old (map (action_of B.value) commands.now)
             (map (answer_of B.value B.Output.size) replies.items) self.new) }
         ensures refused { OnErr result (self.new ≡ self.old) }

@@ -43,6 +43,7 @@ impl<B> Expr<B> {
     /// assert!(rt; sum.occurs(3) && !sum.occurs(5));
     /// ```
     pub fn occurs(&self, i: usize) -> bool
+        // True exactly when the variable occurs in the expression.
         ensures { IsTrue result ↔ Occurs i self.now }
     {
         match self {
@@ -65,6 +66,7 @@ impl<B> Expr<B> {
     /// assert!(rt; !less_first.read_once());
     /// ```
     pub fn read_once(&self) -> bool
+        // True exactly when no variable occurs twice.
         ensures { IsTrue result ↔ ReadOnce self.now }
     {
         match self {
@@ -83,6 +85,7 @@ impl<B> Expr<B> {
     /// assert!(rt; sum.has_product());
     /// ```
     pub fn has_product(&self) -> bool
+        // True exactly when a product occurs in the expression.
         ensures { IsTrue result ↔ HasProduct self.now }
     {
         match self {

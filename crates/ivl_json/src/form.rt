@@ -87,6 +87,7 @@ pub trait JsonForm: Sized {
     /// assert_eq!(rt; value.to_string(alloc)?.as_str(), "[3,8]");
     /// ```
     fn to_value(&self, alloc: Global) -> Result<Value, AllocError>
+        // On success, the result is the JSON value of `self`, which reads as `self`.
         ensures written { IfOk result (λ v. view v ≡ json self.now) }
         ensures reads_back { reads (json self.now) self.now };
 
@@ -103,6 +104,7 @@ pub trait JsonForm: Sized {
     /// assert_eq!(rt; read, Err(JsonFault::Range));
     /// ```
     fn from_value(alloc: Global, value: &Value) -> Result<Self, JsonFault>
+        // On success, the JSON value reads as the result; on an error, the fault is one for which it may be refused.
         ensures read { IfOk result (reads (view value.now)) }
         ensures fault { IfErr result (faults (view value.now)) };
 

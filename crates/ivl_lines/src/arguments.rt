@@ -24,6 +24,7 @@ pub enum Start {
 /// assert_eq!(rt; start_of(Some("--help"), true), Start::Other);
 /// ```
 pub fn start_of(first: Option<&str>, has_more: bool) -> Start
+    // The result is what the arguments ask for: `Lines` without any, `Help`, `Version`, or `Other`.
     ensures { result ≡ started_by (option_map (λ word. word.now) first.entry) has_more }
 {
     match first {

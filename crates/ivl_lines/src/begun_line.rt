@@ -32,6 +32,7 @@ impl Model for BegunLine {
 impl BegunLine {
     /// Returns a line without bytes. Allocates the room that each line has.
     pub fn new(alloc: Global) -> Result<BegunLine, AllocError>
+        // On success, no byte is kept, and none is lost.
         ensures { IfOk result (λ line. line ≡ Some []) }
     {
         Ok(BegunLine {
@@ -42,6 +43,7 @@ impl BegunLine {
 
     /// Returns whether the line has no byte yet.
     pub fn is_empty(&self) -> bool
+        // True exactly when no byte is kept, and none is lost.
         ensures { IsTrue result ↔ self.now ≡ Some [] }
     {
         !self.is_lost && self.bytes.is_empty()
@@ -49,6 +51,7 @@ impl BegunLine {
 
     /// Returns the bytes of the line, or `None` if it is lost.
     pub fn bytes(&self) -> Option<&[u8]>
+        // The result is the bytes that are kept, or `None` if they are lost.
         ensures { option_copied result ≡ self.now }
     {
         if self.is_lost {
@@ -60,6 +63,8 @@ impl BegunLine {
     /// Adds bytes to the line, or loses it if there is no memory for them. What it held is then given
     /// back.
     pub fn extend(&mut self, bytes: &[u8])
+        // What it kept of a line becomes what it keeps of the line with these bytes at its end: all of it, or nothing
+        // if it is lost.
         ensures { (line : List ℕ) → IsBegun line self.old → IsBegun (line ++ bytes.now) self.new }
     {
         if self.is_lost {
@@ -73,6 +78,7 @@ impl BegunLine {
 
     /// Begins a line without bytes. Gives back the memory that only a long line needs.
     pub fn clear(&mut self)
+        // No byte is kept, and none is lost.
         ensures { self.new ≡ Some [] }
     {
         self.is_lost = false;

@@ -35,6 +35,8 @@ pub trait AnswersCommands {
         words: &str,
         writer: &mut W,
     ) -> io::Result<()>
+        // On success, a text that may answer the command is written behind the others, and the state is as it may then
+        // be.
         ensures { OnOk result ((text : List ℕ)
             × command_allowed self.old name.now (words_between words.now) text self.new
             × Appends (W.contents writer.old) (W.contents writer.new) text) };

@@ -14,6 +14,7 @@ use std::alloc::{AllocError, Global};
 /// assert_eq!(rt; number_from("+12"), None);
 /// ```
 pub fn number_from(word: &str) -> Option<i64>
+    // The result is the number that the word is, or `None` if it is none of `i64`.
     ensures { result ≡ number_of word.now }
 {
     if word.starts_with('+') {
@@ -34,6 +35,8 @@ pub fn number_from(word: &str) -> Option<i64>
 /// assert_eq!(rt; pairs_from(alloc, "1 9 20")?, None);
 /// ```
 pub fn pairs_from(alloc: Global, text: &str) -> Result<Option<Vec<(i64, i64)>>, AllocError>
+    // On success, the result is the numbers of the text two by two, or `None` if a word is no number, or their count is
+    // odd.
     ensures { IfOk result (λ pairs. option_map (λ v. v.items) pairs
         ≡ pairs_of (words_between text.now)) }
 {

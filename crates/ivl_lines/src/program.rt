@@ -86,6 +86,7 @@ fn ended<P: Program>(rt: &HostRuntime, how: Result<(), SessionFault>) -> ExitCod
 /// assert_eq!(rt; outcome(&Err(SessionFault::Read)), (1, "read failed"));
 /// ```
 pub fn outcome(ended: &Result<(), SessionFault>) -> (u8, &'static str)
+    // The result is the status of the program, and what it says of a fault, or nothing.
     ensures { (result.0, result.1.now) ≡ outcome_of ended.now }
 {
     match ended {

@@ -53,6 +53,7 @@ pub trait Answers {
     ///
     /// Fails only if a write failed, which ends the session.
     fn answer<W: Write>(&mut self, line: &[u8], writer: &mut W) -> io::Result<()>
+        // On success, a text that may answer the line is written behind the others, and the state is as it may then be.
         ensures { OnOk result ((text : List ℕ)
             × allowed self.old line.now text self.new
             × Appends (W.contents writer.old) (W.contents writer.new) text) };
@@ -60,6 +61,7 @@ pub trait Answers {
     /// Returns the answer to a line that is lost: there was no memory for its bytes. Does not
     /// allocate.
     fn answer_to_lost(&self) -> &'static [u8]
+        // The result is the answer to a line whose bytes are lost.
         ensures { result.now ≡ lost };
 }
 

@@ -11,6 +11,7 @@ ghost use Rattle.ivl_lines.specs.Lines.{first_word_of};
 /// assert_eq!(rt; line_text(b"\xff"), None);
 /// ```
 pub fn line_text(line: &[u8]) -> Option<&str>
+    // The result is the line less a carriage return at its end, or `None` exactly when the line is not UTF-8.
     ensures some { IfSome result (λ text. text.now ≡ strip_carriage_return line.now) }
     ensures utf8 { IfSome result (λ text. IsUtf8 line.now) }
     ensures none { IfNone result (¬ (IsUtf8 line.now)) }
@@ -30,6 +31,7 @@ pub fn line_text(line: &[u8]) -> Option<&str>
 /// assert_eq!(rt; first_word(b"\r"), b"".as_slice());
 /// ```
 pub fn first_word(line: &[u8]) -> &[u8]
+    // The result is the first word of the line, or nothing if it has none.
     ensures { result.now ≡ first_word_of line.now }
 {
     let mut pieces = without_return(line).split(|byte| *byte == b' ');

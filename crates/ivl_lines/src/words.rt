@@ -10,6 +10,7 @@ ghost use Rattle.ivl_lines.specs.Words.{words_between};
 /// assert_eq!(rt; next_word("   "), None);
 /// ```
 pub fn next_word(text: &str) -> Option<(&str, &str)>
+    // The result is the first word of the text and a shorter rest with the other words, or `None` if it has no word.
     ensures none { IfNone result (words_between text.entry.now ≡ []) }
     ensures some { IfSome result (λ parts. words_between text.entry.now ≡ parts.0.now ∷ words_between parts.1.now) }
     ensures shorter { IfSome result (λ parts. length parts.1.now < length text.entry.now) }
@@ -35,6 +36,7 @@ pub fn next_word(text: &str) -> Option<(&str, &str)>
 /// assert_eq!(rt; one_word("x y"), None);
 /// ```
 pub fn one_word(text: &str) -> Option<&str>
+    // The result is the one word of the text, or `None` if it does not have exactly one.
     ensures none { IfNone result (length (words_between text.entry.now) ≢ 1) }
     ensures some { IfSome result (λ a. words_between text.entry.now ≡ a.now ∷ []) }
 {
@@ -53,6 +55,7 @@ pub fn one_word(text: &str) -> Option<&str>
 /// assert_eq!(rt; two_words("x"), None);
 /// ```
 pub fn two_words(text: &str) -> Option<(&str, &str)>
+    // The result is the two words of the text, or `None` if it does not have exactly two.
     ensures none { IfNone result (length (words_between text.entry.now) ≢ 2) }
     ensures some { IfSome result (λ w. words_between text.entry.now ≡ w.0.now ∷ w.1.now ∷ []) }
 {
@@ -69,6 +72,7 @@ pub fn two_words(text: &str) -> Option<(&str, &str)>
 /// assert_eq!(rt; three_words("x y z w"), None);
 /// ```
 pub fn three_words(text: &str) -> Option<(&str, &str, &str)>
+    // The result is the three words of the text, or `None` if it does not have exactly three.
     ensures none { IfNone result (length (words_between text.entry.now) ≢ 3) }
     ensures some { IfSome result (λ w. words_between text.entry.now ≡ w.0.now ∷ w.1.now ∷ w.2.now ∷ []) }
 {

@@ -47,6 +47,8 @@ pub fn add_within<B: Width>(
     a: &IntervalSet<B>,
     b: &IntervalSet<B>,
 ) -> Result<(IntervalSet<B>, bool), AllocError>
+    // On success, the members are exactly the sums of a member of each set that are in the range, and the flag is true
+    // exactly when some sum is not.
     ensures members { IfOk result (λ r. IsRunsOf r.0 (Clipped B.whole (Sums (Covers a.now) (Covers b.now)))) }
     ensures cut { IfOk result (λ r. IsTrue r.1 ↔ HasSome (Without (Sums (Covers a.now) (Covers b.now)) (IsBetween B.whole))) }
 {
@@ -74,6 +76,8 @@ pub fn sub_within<B: Width>(
     a: &IntervalSet<B>,
     b: &IntervalSet<B>,
 ) -> Result<(IntervalSet<B>, bool), AllocError>
+    // On success, the members are exactly the differences of a member of `a` and one of `b` that are in the range, and
+    // the flag is true exactly when some difference is not.
     ensures members { IfOk result (λ r. IsRunsOf r.0 (Clipped B.whole (Differences (Covers a.now) (Covers b.now)))) }
     ensures cut { IfOk result (λ r. IsTrue r.1 ↔ HasSome (Without (Differences (Covers a.now) (Covers b.now)) (IsBetween B.whole))) }
 {
@@ -103,6 +107,7 @@ pub fn sums_in_window<B: Width>(
     b: &IntervalSet<B>,
     window: &Interval<B>,
 ) -> Result<IntervalSet<B>, AllocError>
+    // On success, the members are exactly the sums of a member of each set that are in the window.
     ensures { IfOk result (λ L. IsRunsOf L (Clipped window.now (Sums (Covers a.now) (Covers b.now)))) }
 {
     combine(a, b, Combined::Sum, *window, 0)
@@ -130,6 +135,7 @@ pub fn differences_in_window<B: Width>(
     b: &IntervalSet<B>,
     window: &Interval<B>,
 ) -> Result<IntervalSet<B>, AllocError>
+    // On success, the members are exactly the differences of a member of `a` and one of `b` that are in the window.
     ensures { IfOk result (λ L. IsRunsOf L (Clipped window.now (Differences (Covers a.now) (Covers b.now)))) }
 {
     combine(a, b, Combined::Difference, *window, 0)

@@ -50,6 +50,8 @@ pub fn results_in_set<B: Width>(
     b: &IntervalSet<B>,
     op: Combined,
 ) -> Result<IntervalSet<B>, AllocError>
+    // On success, the members are exactly those of `x` that are a sum, or by `op` a difference, of a member of `a` and
+    // one of `b`.
     ensures { IfOk result (λ L. IsRunsOf L (Intersection (Covers x.now) (SumsBy op (Covers a.now) (Covers b.now)))) }
 {
     if x.is_empty() {
@@ -83,6 +85,8 @@ pub fn results_unless_all<B: Width>(
     b: &IntervalSet<B>,
     op: Combined,
 ) -> Result<Option<IntervalSet<B>>, AllocError>
+    // On success, `None` says that each member of `x` is a sum, or by `op` a difference, of a member of `a` and one of
+    // `b`; a set has exactly the members of `x` that are.
     ensures { IfOk result (λ o. MatchOption o (IsSubset (Covers x.now) (SumsBy op (Covers a.now) (Covers b.now)))
         (λ L. IsRunsOf L (Intersection (Covers x.now) (SumsBy op (Covers a.now) (Covers b.now))))) }
 {

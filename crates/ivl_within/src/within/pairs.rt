@@ -27,6 +27,8 @@ pub fn pair_in_window<B: Width>(
     requires left { a.0 ≤ℤ a.1 }
     requires right { b.0 ≤ℤ b.1 }
     requires window { window.0 ≤ℤ window.1 }
+    // The members are exactly the sums, or by `op` the differences, of a member of each interval that are in the
+    // window.
     ensures { SameMembers (IsBetween result) (Clipped window (IsBetween (pair_by op a b))) }
 {
     match pair_of(a, b, op) {
