@@ -18,7 +18,7 @@ pub fn intersection<R: Pair>(a: &[R], b: &[R], out: &mut [R]) -> usize
     requires second { IsRunListIn R.Bound.whole (map R.pair b.now) }
     requires counted { length a.now + length b.now < 2 ^ 63 }
     // The runs of exactly the numbers in both lists are laid in the slice, as many as it has places, and the number of
-    // all is returned.
+    // all is returned, at most as many as the two lists have together.
     ensures runs { (L : List (ℤ × ℤ)) × IsLaid (Intersection (Covers (map R.pair a.now)) (Covers (map R.pair b.now)))
         (map R.pair out.old) (map R.pair out.new) result L }
     ensures at_most { result ≤ length a.now + length b.now }
@@ -34,7 +34,7 @@ pub fn difference<R: Pair>(a: &[R], b: &[R], out: &mut [R]) -> usize
     requires second { IsRunListIn R.Bound.whole (map R.pair b.now) }
     requires counted { length a.now + length b.now < 2 ^ 63 }
     // The runs of exactly the numbers in `a` and not in `b` are laid in the slice, as many as it has places, and the
-    // number of all is returned.
+    // number of all is returned, at most as many as the two lists have together.
     ensures runs { (L : List (ℤ × ℤ)) × IsLaid (Without (Covers (map R.pair a.now)) (Covers (map R.pair b.now)))
         (map R.pair out.old) (map R.pair out.new) result L }
     ensures at_most { result ≤ length a.now + length b.now }
@@ -64,7 +64,7 @@ pub fn union<R: Pair>(a: &[R], b: &[R], out: &mut [R]) -> usize
     requires second { IsRunListIn R.Bound.whole (map R.pair b.now) }
     requires counted { length a.now + length b.now < 2 ^ 63 }
     // The runs of exactly the numbers in either list are laid in the slice, as many as it has places, and the number of
-    // all is returned.
+    // all is returned, at most as many as the two lists have together.
     ensures runs { (L : List (ℤ × ℤ)) × IsLaid (Union (Covers (map R.pair a.now)) (Covers (map R.pair b.now)))
         (map R.pair out.old) (map R.pair out.new) result L }
     ensures at_most { result ≤ length a.now + length b.now }
@@ -80,7 +80,7 @@ pub fn symmetric_difference<R: Pair>(a: &[R], b: &[R], out: &mut [R]) -> usize
     requires second { IsRunListIn R.Bound.whole (map R.pair b.now) }
     requires counted { length a.now + length b.now < 2 ^ 63 }
     // The runs of exactly the numbers in either list and not in both are laid in the slice, as many as it has places,
-    // and the number of all is returned.
+    // and the number of all is returned, at most as many as the two lists have together.
     ensures runs { (L : List (ℤ × ℤ)) × IsLaid (SymmetricDifference (Covers (map R.pair a.now)) (Covers (map R.pair b.now)))
         (map R.pair out.old) (map R.pair out.new) result L }
     ensures at_most { result ≤ length a.now + length b.now }

@@ -53,13 +53,15 @@ pub fn eval<B: Width>(
     expr: &Expr<B>,
     sets: &[IntervalSet<B>],
 ) -> Result<IntervalSet<B>, EvalFault>
-    // The leftmost variable without a set is reported before anything else.
+    // The leftmost variable without a set is reported before anything else, and `Range` only if the set of some node
+    // leaves the range.
     ensures missing { (i : ℕ) → (result ≡ Err (EvalFault.Missing i)) ↔ (first_missing (length sets.now) expr.now ≡ Some i) }
     ensures range { result ≡ Err EvalFault.Range → SomeNodeOutside B.whole B.value expr.now (set_at sets.now) }
-    // The answer is the set of the node, and the set of no node leaves the range.
+    // On success, the members are exactly those of the node of the expression, and the set of no node leaves the range.
     ensures nodes { IfOk result (λ _. AllNodesIn B.whole B.value expr.now (set_at sets.now)) }
     ensures members { IfOk result (λ L. IsRunsOf L (Node B.value expr.now (set_at sets.now))) }
-    // It holds every value; if no variable repeats, the ends of its runs are values, and without products all members.
+    // They include every value; if no variable repeats, the ends of the runs are values, and without products all
+    // members.
     ensures values { IfOk result (λ L. IsSubset (Values B.value expr.now (set_at sets.now)) (Covers L)) }
     ensures ends { ReadOnce expr.now → IfOk result (λ L. All (λ run. Values B.value expr.now (set_at sets.now) run.0 × Values B.value expr.now (set_at sets.now) run.1) L) }
     ensures exact { ReadOnce expr.now → NoProduct expr.now → IfOk result (λ L. IsRunsOf L (Values B.value expr.now (set_at sets.now))) }

@@ -87,12 +87,13 @@ pub fn serve<A: Answers, R: Read, W: Write>(
     reader: &mut R,
     writer: &mut W,
 ) -> Result<(), SessionFault>
-    // All bytes were read, and what is written answers their lines.
+    // On success all bytes were read, and what is written answers their lines.
     ensures end { OnOk result (IsAtEnd (R.remaining reader.new)) }
     ensures ok { OnOk result (IfSome (R.remaining reader.old) (λ bytes. (text : List ℕ)
         × IsAnswered (AnswersOrLoses A.lost A.allowed) answers.old (lines_of bytes) text answers.new
         × Appends (W.contents writer.old) (W.contents writer.new) text)) }
-    // What is written answers the ended lines of the bytes that the reader gave.
+    // After a failed read what is written answers the ended lines of the bytes that the reader gave; after `Memory`
+    // nothing was read or written.
     ensures read { IsErrOf result SessionFault.Read → (front : List ℕ) × (text : List ℕ)
         × Consumes (R.remaining reader.old) (R.remaining reader.new) front
         × IsAnswered (AnswersOrLoses A.lost A.allowed) answers.old (ended_lines_of front) text answers.new
