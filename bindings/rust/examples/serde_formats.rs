@@ -10,7 +10,7 @@ pub fn main() {
     let config = r#"{"open": [[8000, 8099], [443, 443]], "closed": null}"#;
     let ports: BTreeMap<String, IntervalSet<u16>> = serde_json::from_str(config).unwrap();
     assert_eq!((ports["open"].len(), ports["closed"].len()), (101, 0));
-    assert_eq!(serde_json::to_string(&ports).unwrap(), r#"{"closed":null,"open":[[443,443],[8000,8099]]}"#);
+    assert_eq!(serde_json::to_string(&ports).unwrap(), r#"{"closed":[],"open":[[443,443],[8000,8099]]}"#);
     let fault = serde_json::from_str::<IntervalSet<u16>>("[[1, 65535]]").unwrap_err();
     assert!(fault.to_string().starts_with("65535: a bound must be from 0 to 65534"), "{fault}");
 

@@ -59,9 +59,11 @@
 //!
 //! None is enabled by itself, and then the crate depends on nothing but `core` and `alloc`.
 //!
-//! - `serde`: `Serialize` and `Deserialize` of both sets, as the sequence of the runs: `[[1,2],[5,5]]` in JSON; and of maps, as that of
-//!   runs and values: `[[[1,2],"anna"],[[5,5],"bela"]]`.
-//! - `json`: [`proved`]`::ivl_json`, the proved reading and writing of JSON, over `serde_json`.
+//! - `serde`: `Serialize` and `Deserialize` of both sets, as the sequence of the runs: `[[1,2],[5,5]]` in JSON, and `[]` for the empty
+//!   set, for which `null` is read too; and of maps, as that of runs and values: `[[[1,2],"anna"],[[5,5],"bela"]]`. A run that crosses is
+//!   an error.
+//! - `json`: [`proved`]`::ivl_json`, the proved reading and writing of the original's form, over `serde_json`: `null` for the empty
+//!   set, and a run that crosses is none.
 //!
 //! # Machines of 32 bits
 //!

@@ -21,7 +21,7 @@ use crate::proved::width::Width;
 ///
 /// `V` is any type with `Clone` and `Eq`, which keep the laws that Rust's std asks of them: `==` is an equivalence, and a copy
 /// equals what it was copied from. The proofs take the laws for granted; a type that breaks them may get wrong answers, but never undefined
-/// behaviour. A value is copied where an edit splits its entry, and by calls that return another map.
+/// behaviour. A value is copied where an edit splits its entry, by [`update`](Self::update), and by calls that return another map.
 ///
 /// ```
 /// use intervallum::IntervalMap;
@@ -49,8 +49,8 @@ use crate::proved::width::Width;
 /// Numbers and ranges are passed by value, as to a set. A call that gives values to numbers needs these to be in the
 /// [`limits`](crate::IntervalSet::limits); a call that asks or removes takes any, and a number outside the limits has no value. If
 /// the condition of a method does not hold, it panics with its name, the condition and the numbers; the method `checked_..` beside it returns
-/// `None` instead. If an allocation fails, the process aborts, as in std. If `==` or `clone` of a value panics in an edit, the
-/// numbers of the edit may have lost their values, and the others keep theirs.
+/// `None` instead. If an allocation fails, the process aborts, as in std. If code of a value panics in an edit, be it `==`, `clone`
+/// or `drop`, the numbers from the least to the greatest of the edit may have lost their values, and all others keep theirs.
 ///
 /// `n` and `m` are the numbers of entries. They stand in one vector, each with two bounds and a value: 12 bytes for bounds and values of 32
 /// bits. A question is a binary search. An edit that adds or takes out an entry moves those above it.
@@ -67,6 +67,6 @@ use crate::proved::width::Width;
 /// | `iter()` yields `(&RangeInclusive, &V)` | [`iter()`](Self::iter) yields `(RangeInclusive, &V)` |
 /// | numbers are any type with an order, and step functions | numbers are those of [`Width`], which knows the next one |
 ///
-/// Each method is one call of a [`proved::IntervalMap`](crate::proved::ivl_map::IntervalMap) and links its contract, or says that it is
-/// tested and not proved.
+/// Each method is a call or two of a [`proved::IntervalMap`](crate::proved::ivl_map::IntervalMap) and links its contract, or says that it
+/// is tested and not proved.
 pub struct IntervalMap<T: Width, V: Clone + Eq>(Option<below::Proved<T, V>>);

@@ -46,7 +46,8 @@ use crate::proved::{self, width::Width};
 /// assert_eq!(hours.to_string(), "[8..16]");
 /// ```
 ///
-/// Each method is one call of a [`proved::IntervalSet`], or some few, and links its contract. `n` and `m` are the numbers of runs.
+/// Each method is one call of a [`proved::IntervalSet`], or some few, and links its contract, or says that it is tested and not
+/// proved. `n` and `m` are the numbers of runs.
 pub struct IntervalSet<T: Width>(Option<proved::IntervalSet<T>>);
 
 /// A set of integers as [`IntervalSet`] is, for many runs that change: an edit moves the runs of one page, and not all those
@@ -71,7 +72,8 @@ pub struct IntervalSet<T: Width>(Option<proved::IntervalSet<T>>);
 /// assert_eq!(free.to_set(), IntervalSet::from([0..=3, 7..=999_999]));
 /// ```
 ///
-/// Each method is one call of a [`proved::PagedSet`], or some few, and links its contract. `n` is the number of runs.
+/// Each method is one call of a [`proved::PagedSet`], or some few, and links its contract, or says that it is tested and not
+/// proved. `n` is the number of runs.
 ///
 /// [`proved::PagedSet`]: crate::proved::ivl_paged::PagedSet
 pub struct PagedSet<T: Width>(Option<proved::ivl_paged::PagedSet<T>>);

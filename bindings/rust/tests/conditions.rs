@@ -73,6 +73,11 @@ fn paged_sets_panic_with_the_values() {
         [3..=4, 0..=255].into_iter().collect::<PagedSet<u8>>() => "PagedSet::from_iter(0..=255): the numbers must be from 0 to 254";
         PagedSet::from([(1, 255u8)]) => "PagedSet::from(1..=255): the numbers must be from 0 to 254";
         PagedSet::from(9..=255u8) => "PagedSet::from(9..=255): the numbers must be from 0 to 254";
+        PagedSet::new(3u8, 255) => "PagedSet::new(3, 255): the first bound must not be above the second, and both must be from 0 to 254";
+        PagedSet::singleton(-128i8) => "PagedSet::singleton(-128): the value must be from -127 to 127";
+        PagedSet::<u8>::empty().lower() => "PagedSet::lower(): the set must not be empty, but is {}";
+        PagedSet::<u8>::empty().upper() => "PagedSet::upper(): the set must not be empty, but is {}";
+        set().best_fit(0) => "PagedSet::best_fit(0): the count must be above 0";
     }
     let mut set = set();
     assert_eq!(

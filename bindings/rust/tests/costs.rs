@@ -158,6 +158,28 @@ fn a_copy_into_a_set_uses_its_memory() {
     assert_eq!((told.allocations, told.held), (1, 16 * (RUNS as isize - 1)));
 }
 
+/// `|=` by a set with far fewer runs is made of edits in place, and makes no list of all runs.
+#[test]
+fn few_runs_are_added_in_place() {
+    macro_rules! in_place {
+        ($($Set:ident: $most:expr;)*) => {$(
+            let mut long: intervallum::$Set<i64> = (0..20_000).map(|i| 10 * i).collect();
+            // makes room for more runs
+            assert!(long.insert(1_000_000) && long.remove(1_000_000));
+            let few = intervallum::$Set::from([5..=5, 15..=15, 100..=109, 199_991..=199_993]);
+            let (whole, told) = cost(|| long.union(&few));
+            assert!(told.most > 20_000 * 16, "{told:?}");
+            let ((), told) = cost(|| long |= &few);
+            assert!(told.most <= $most && long == whole, "{}: {told:?}", stringify!($Set));
+        )*};
+    }
+    // two pages may be split
+    in_place! {
+        IntervalSet: 0;
+        PagedSet: 2 * 128 * 16;
+    }
+}
+
 #[test]
 fn adding_to_a_network_with_room_does_not_allocate() {
     let domains: Vec<_> = (0..300).map(|from| IntervalSet::new(Global, from, from + 9).unwrap()).collect();

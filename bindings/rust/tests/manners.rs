@@ -262,7 +262,7 @@ macro_rules! for_both {
         }
 
         #[test]
-        fn few_runs_are_added_in_place() {
+        fn few_runs_are_added_to_many() {
             let long: Set<u32> = (0..20_000).map(|i| 10 * i).collect();
             let few = Set::from([5..=5, 100..=109, 250_000..=250_001]);
             let mut by_reference = long.clone();

@@ -1,7 +1,10 @@
 //! Types of bounds that are not integers of Rust: IPv4 addresses, and a type with many values outside its range.
-use intervallum::{IntervalSet, Width};
+use intervallum::proved::{self, Global, ivl_paged};
+use intervallum::{IntervalSet, PagedSet, Width};
+use std::cell::Cell;
 use std::fmt::{self, Debug, Display};
 use std::net::Ipv4Addr;
+use std::panic::{self, AssertUnwindSafe};
 
 /// An IPv4 address. Every address is in the range, whose size takes more than 32 bits.
 #[derive(Clone, Copy, PartialEq, Eq, PartialOrd, Ord, Hash)]
@@ -100,4 +103,55 @@ fn a_narrow_range() {
     assert_eq!(set.checked_sub_value(Narrow(189)), Some(IntervalSet::new(Narrow(-100), Narrow(-89))));
     assert!(!set.fits_sub_value(Narrow(190)));
     assert_eq!(!whole, IntervalSet::empty());
+}
+
+thread_local! {
+    static GREATEST: Cell<u8> = const { Cell::new(200) };
+}
+
+/// A number whose range ends where the thread says. A proved set that was made before it says less has numbers outside the range,
+/// as one that a release build made although a condition did not hold.
+#[derive(Clone, Copy, PartialEq, Eq, PartialOrd, Ord, Debug)]
+struct Shrinking(u8);
+
+impl Width for Shrinking {
+    type Output = u8;
+
+    fn min_value() -> Shrinking {
+        Shrinking(0)
+    }
+
+    fn max_value() -> Shrinking {
+        Shrinking(GREATEST.get())
+    }
+
+    fn number(self) -> i128 {
+        self.0.into()
+    }
+
+    fn from_number(number: i128) -> Option<Shrinking> {
+        u8::try_from(number).ok().map(Shrinking).filter(|value| *value <= Self::max_value())
+    }
+}
+
+/// Makes the root's set of a proved one, when `most` is the greatest number of the range.
+fn shrunk<P, S: From<P>>(make: impl FnOnce() -> P, most: u8) -> Result<S, String> {
+    GREATEST.set(200);
+    let set = make();
+    GREATEST.set(most);
+    let told = panic::catch_unwind(AssertUnwindSafe(|| S::from(set)));
+    told.map_err(|fault| *fault.downcast::<String>().unwrap())
+}
+
+#[test]
+fn a_proved_set_outside_the_range_is_refused() {
+    let lists = || proved::IntervalSet::new(Global, Shrinking(5), Shrinking(150)).unwrap();
+    let pages = || ivl_paged::PagedSet::of_set(&lists()).unwrap();
+    for most in [150, 200] {
+        assert_eq!(shrunk(lists, most).map(|set: IntervalSet<Shrinking>| set.len()), Ok(146));
+        assert_eq!(shrunk(pages, most).map(|set: PagedSet<Shrinking>| set.len()), Ok(146));
+    }
+    let told = |kind: &str| Err(format!("{kind}::from(5..=150): the numbers must be from 0 to 149"));
+    assert_eq!(shrunk(lists, 149).map(|set: IntervalSet<Shrinking>| set.len()), told("IntervalSet"));
+    assert_eq!(shrunk(pages, 149).map(|set: PagedSet<Shrinking>| set.len()), told("PagedSet"));
 }

@@ -30,7 +30,8 @@ Books rooms by the day: reads one line at a time from standard input, and answer
 Dates are written as 2026-03-01. --version prints the version.
 ";
 
-struct Lines;
+/// The lines of this program.
+pub struct Lines;
 
 impl Program for Lines {
     const NAME: &'static str = "ivl_calendar";

@@ -25,7 +25,8 @@ Hands out the ports from 1024 to 65535: reads one line at a time from standard i
 --version prints the version.
 ";
 
-struct Lines;
+/// The lines of this program.
+pub struct Lines;
 
 impl Program for Lines {
     const NAME: &'static str = "ivl_ports";

@@ -30,7 +30,8 @@ Says whether every access a[i + k] is within bounds: reads one line at a time fr
 --version prints the version.
 ";
 
-struct Lines;
+/// The lines of this program.
+pub struct Lines;
 
 impl Program for Lines {
     const NAME: &'static str = "ivl_ranges";

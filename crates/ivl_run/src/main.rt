@@ -23,7 +23,8 @@ The registers a to z hold sets of i64: reads one line at a time from standard in
 --version prints the version.
 ";
 
-struct Lines;
+/// The lines of this program.
+pub struct Lines;
 
 impl Program for Lines {
     const NAME: &'static str = "ivl_run";

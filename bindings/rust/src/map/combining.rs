@@ -40,6 +40,12 @@ impl<T: Width, V: Clone + Eq> IntervalMap<T, V> {
 
     /// Returns what the map has at the numbers that are no members of a set of either kind, and takes as long as
     /// [`restrict_to`](Self::restrict_to).
+    ///
+    /// ```
+    /// # use intervallum::{IntervalMap, PagedSet};
+    /// let a = IntervalMap::from([(1..=5, "a"), (8..=9, "b")]);
+    /// assert_eq!(a.without(&PagedSet::from(4..9)), IntervalMap::from([(1..=3, "a"), (9..=9, "b")]));
+    /// ```
     #[doc = contract!(IntervalMap "without")]
     #[must_use]
     pub fn without(&self, set: &impl AnySet<T>) -> Self {

@@ -1,11 +1,12 @@
 //! Edits in place.
 use super::IntervalMap;
-use super::below::Held;
+use super::below::{Entry, Held, hull_of};
 use super::making::{entries_of, gathered};
 use crate::proved::{Interval, ops::Bounded as _, width::Width};
 use crate::set::Piece;
 use crate::set::conditions::{contract, memory};
 use crate::set::making::interval_of;
+use alloc::vec::Vec;
 use core::ops::RangeInclusive;
 
 /// Edits in place.
@@ -30,13 +31,22 @@ impl<T: Width, V: Clone + Eq> IntervalMap<T, V> {
     }
 
     /// Does what [`insert`](Self::insert) does, or returns `None` if its condition does not hold.
+    ///
+    /// ```
+    /// # use intervallum::IntervalMap;
+    /// let mut a = IntervalMap::new();
+    /// assert_eq!((a.checked_insert(1..=9u8, "a"), a.checked_insert(9..=255, "b")), (Some(()), None));
+    /// assert_eq!(a.get(9), Some(&"a"));
+    /// ```
+    #[doc = contract!(of "insert")]
+    #[must_use = "`None` says that no value was written"]
     pub fn checked_insert(&mut self, range: impl Piece<T>, value: V) -> Option<()> {
         self.write(range.interval()?, value);
         Some(())
     }
 
     fn write(&mut self, interval: Interval<T>, value: V) {
-        memory(self.edited().insert(interval, Held(value)));
+        memory(self.edit(interval, |map| map.insert(interval, Held(value))));
     }
 
     /// Gives each number of a range a value, if none of them has one yet; otherwise returns the first entry in the way, and
@@ -55,6 +65,15 @@ impl<T: Width, V: Clone + Eq> IntervalMap<T, V> {
     }
 
     /// Does what [`insert_if_free`](Self::insert_if_free) does, or returns `None` if its condition does not hold.
+    ///
+    /// ```
+    /// # use intervallum::IntervalMap;
+    /// let mut a = IntervalMap::from([(1..=5u8, "a")]);
+    /// assert_eq!(a.checked_insert_if_free(4..=9, "b"), Some(Err((1..=5, &"a"))));
+    /// assert_eq!(a.checked_insert_if_free(6..=255, "b"), None);
+    /// ```
+    #[doc = contract!(of "insert_if_free")]
+    #[must_use = "`None` says that no value was written"]
     pub fn checked_insert_if_free(
         &mut self,
         range: impl Piece<T>,
@@ -64,7 +83,7 @@ impl<T: Width, V: Clone + Eq> IntervalMap<T, V> {
     }
 
     fn write_if_free(&mut self, interval: Interval<T>, value: V) -> Result<(), (RangeInclusive<T>, &V)> {
-        match memory(self.edited().insert_if_free(interval, Held(value))) {
+        match memory(self.edit(interval, |map| map.insert_if_free(interval, Held(value)))) {
             // the entry in the way is not empty
             Some(run) => self.get_run(run.lower()).map_or(Ok(()), Err),
             None => Ok(()),
@@ -85,12 +104,19 @@ impl<T: Width, V: Clone + Eq> IntervalMap<T, V> {
         let interval = range.clamped();
         let had_some = !self.met(interval).is_empty();
         if had_some {
-            memory(self.edited().remove(interval));
+            memory(self.edit(interval, |map| map.remove(interval)));
         }
         had_some
     }
 
     /// Removes all values. Keeps the capacity.
+    ///
+    /// ```
+    /// # use intervallum::IntervalMap;
+    /// let mut a = IntervalMap::from([(1..=5, "a")]);
+    /// a.clear();
+    /// assert!(a.is_empty());
+    /// ```
     #[doc = contract!(IntervalMap "clear")]
     pub fn clear(&mut self) {
         self.edited().clear();
@@ -108,7 +134,8 @@ impl<T: Width, V: Clone + Eq> IntervalMap<T, V> {
     /// ```
     #[doc = contract!(IntervalMap "update")]
     pub fn update(&mut self, range: impl Piece<T>, change: impl Fn(&V) -> V) {
-        memory(self.edited().update(range.clamped(), |held| Ok(Held(change(&held.0)))));
+        let interval = range.clamped();
+        memory(self.edit(interval, |map| map.update(interval, |held| Ok(Held(change(&held.0))))));
     }
 
     /// Inserts every range with its value that an iterator yields, as `extend` does, or returns `None` and changes nothing if some
@@ -121,10 +148,14 @@ impl<T: Width, V: Clone + Eq> IntervalMap<T, V> {
     /// assert_eq!((a.checked_extend([(2..=3, "b"), (3..=4, "c")]), a.get(3)), (Some(()), Some(&"c")));
     /// ```
     #[doc = contract!(IntervalMap "extend")]
+    #[must_use = "`None` says that no value was written"]
     pub fn checked_extend<P: Piece<T>>(&mut self, entries: impl IntoIterator<Item = (P, V)>) -> Option<()> {
-        let entries = entries_of(entries)?;
-        memory(self.edited().extend(entries.into()));
+        self.write_all(entries_of(entries)?);
         Some(())
+    }
+
+    fn write_all(&mut self, entries: Vec<Entry<T, V>>) {
+        memory(self.edit(hull_of(&entries), |map| map.extend(entries.into())));
     }
 }
 
@@ -133,7 +164,6 @@ impl<T: Width, V: Clone + Eq> IntervalMap<T, V> {
 impl<T: Width, V: Clone + Eq, P: Piece<T>> Extend<(P, V)> for IntervalMap<T, V> {
     #[track_caller]
     fn extend<I: IntoIterator<Item = (P, V)>>(&mut self, entries: I) {
-        let entries = gathered("extend", entries);
-        memory(self.edited().extend(entries.into()));
+        self.write_all(gathered("extend", entries));
     }
 }

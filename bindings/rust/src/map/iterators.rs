@@ -11,12 +11,15 @@ use core::ops::RangeInclusive;
 use core::slice;
 
 /// An iterator over entries of an [`IntervalMap`], in ascending order: the run of each, and its value.
+#[must_use = "iterators do nothing unless they are consumed"]
 pub struct Iter<'a, T: Width, V>(pub(super) slice::Iter<'a, Entry<T, V>>);
 
 /// An iterator over the values of an [`IntervalMap`], in ascending order of their numbers.
+#[must_use = "iterators do nothing unless they are consumed"]
 pub struct Values<'a, T: Width, V>(pub(super) slice::Iter<'a, Entry<T, V>>);
 
 /// An iterator over the entries of a map that is consumed, in ascending order. Copies no value.
+#[must_use = "iterators do nothing unless they are consumed"]
 pub struct IntoIter<T: Width, V>(vec::IntoIter<Entry<T, V>>);
 
 fn entry<T: Width, V>((run, held): &Entry<T, V>) -> (RangeInclusive<T>, &V) {

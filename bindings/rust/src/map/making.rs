@@ -16,12 +16,21 @@ impl<T: Width, V: Clone + Eq> IntervalMap<T, V> {
     /// static NONE: IntervalMap<u32, &str> = IntervalMap::empty();
     /// assert!(NONE.is_empty() && NONE.get(1).is_none());
     /// ```
+    #[doc = contract!(over IntervalMap "empty")]
     #[must_use]
     pub const fn empty() -> Self {
         Self(None)
     }
 
     /// Returns [`empty`](Self::empty), as `new` of a map of std does.
+    ///
+    /// ```
+    /// # use intervallum::IntervalMap;
+    /// let mut a = IntervalMap::new();
+    /// a.insert(1..=5, "a");
+    /// assert_eq!(a, IntervalMap::from([(1..=5, "a")]));
+    /// ```
+    #[doc = contract!(of "empty")]
     #[must_use]
     pub const fn new() -> Self {
         Self::empty()

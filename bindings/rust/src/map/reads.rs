@@ -18,6 +18,12 @@ pub(super) fn shown<T: Width, V>((run, held): (Interval<T>, &Held<V>)) -> (Range
 /// Sizes and single numbers.
 impl<T: Width, V: Clone + Eq> IntervalMap<T, V> {
     /// Returns the number of entries. `O(1)`.
+    ///
+    /// ```
+    /// # use intervallum::IntervalMap;
+    /// let a = IntervalMap::from([(1..=5, "a"), (6..=7, "a"), (8..=9, "b")]);
+    /// assert_eq!(a.interval_count(), 2);
+    /// ```
     #[doc = contract!(IntervalMap "interval_count")]
     #[must_use]
     pub fn interval_count(&self) -> usize {
@@ -25,6 +31,11 @@ impl<T: Width, V: Clone + Eq> IntervalMap<T, V> {
     }
 
     /// Returns true exactly when no number has a value. `O(1)`.
+    ///
+    /// ```
+    /// # use intervallum::IntervalMap;
+    /// assert!(IntervalMap::from([(5..5, "a")]).is_empty() && !IntervalMap::from([(5..6, "a")]).is_empty());
+    /// ```
     #[doc = contract!(IntervalMap "is_empty")]
     #[must_use]
     pub fn is_empty(&self) -> bool {
@@ -45,6 +56,12 @@ impl<T: Width, V: Clone + Eq> IntervalMap<T, V> {
     }
 
     /// Returns true exactly when a number has a value. `O(log n)`.
+    ///
+    /// ```
+    /// # use intervallum::IntervalMap;
+    /// let a = IntervalMap::from([(1..=5, "a"), (8..=9, "b")]);
+    /// assert!(a.contains(5) && !a.contains(6));
+    /// ```
     #[doc = contract!(IntervalMap "contains")]
     #[must_use]
     pub fn contains(&self, number: T) -> bool {
@@ -81,6 +98,12 @@ impl<T: Width, V: Clone + Eq> IntervalMap<T, V> {
     }
 
     /// Returns the entry with the least numbers, or `None` if there is none. `O(1)`.
+    ///
+    /// ```
+    /// # use intervallum::IntervalMap;
+    /// let a = IntervalMap::from([(8..=9, "b"), (1..=5, "a")]);
+    /// assert_eq!(a.first(), Some((1..=5, &"a")));
+    /// ```
     #[doc = contract!(IntervalMap "first")]
     #[must_use]
     pub fn first(&self) -> Option<(RangeInclusive<T>, &V)> {
@@ -88,6 +111,12 @@ impl<T: Width, V: Clone + Eq> IntervalMap<T, V> {
     }
 
     /// Returns the entry with the greatest numbers, or `None` if there is none. `O(1)`.
+    ///
+    /// ```
+    /// # use intervallum::IntervalMap;
+    /// let a = IntervalMap::from([(8..=9, "b"), (1..=5, "a")]);
+    /// assert_eq!(a.last(), Some((8..=9, &"b")));
+    /// ```
     #[doc = contract!(IntervalMap "last")]
     #[must_use]
     pub fn last(&self) -> Option<(RangeInclusive<T>, &V)> {
@@ -109,6 +138,12 @@ impl<T: Width, V: Clone + Eq> IntervalMap<T, V> {
     }
 
     /// Returns the entry of the greatest number that is at most `number` and has a value, or `None` if there is none. `O(log n)`.
+    ///
+    /// ```
+    /// # use intervallum::IntervalMap;
+    /// let a = IntervalMap::from([(1..=5, "a"), (8..=9, "b")]);
+    /// assert_eq!((a.previous_to(7), a.previous_to(0)), (Some((1..=5, &"a")), None));
+    /// ```
     #[doc = contract!(IntervalMap "previous_to")]
     #[must_use]
     pub fn previous_to(&self, number: T) -> Option<(RangeInclusive<T>, &V)> {
@@ -127,6 +162,7 @@ impl<T: Width, V: Clone + Eq> IntervalMap<T, V> {
     /// assert_eq!((a.iter().next_back(), a.iter().len()), (Some((8..=9, &"b")), 2));
     /// ```
     #[doc = contract!(over IntervalMap "entries")]
+    #[must_use = "iterators do nothing unless they are consumed"]
     pub fn iter(&self) -> Iter<'_, T, V> {
         Iter(self.entries().iter())
     }
@@ -139,6 +175,7 @@ impl<T: Width, V: Clone + Eq> IntervalMap<T, V> {
     /// assert_eq!(a.values().collect::<Vec<_>>(), [&"a", &"b"]);
     /// ```
     #[doc = contract!(over IntervalMap "entries")]
+    #[must_use = "iterators do nothing unless they are consumed"]
     pub fn values(&self) -> Values<'_, T, V> {
         Values(self.entries().iter())
     }
@@ -152,6 +189,7 @@ impl<T: Width, V: Clone + Eq> IntervalMap<T, V> {
     /// assert_eq!(a.overlapping(5..=8).collect::<Vec<_>>(), [(1..=5, &"a"), (8..=9, &"b")]);
     /// ```
     #[doc = contract!(over IntervalMap "overlapping")]
+    #[must_use = "iterators do nothing unless they are consumed"]
     pub fn overlapping(&self, range: impl Piece<T>) -> Iter<'_, T, V> {
         Iter(self.met(range.clamped()).iter())
     }
@@ -179,6 +217,12 @@ impl<T: Width, V: Clone + Eq> IntervalMap<T, V> {
     }
 
     /// Returns the set of the numbers whose value passes a test, which is asked once for each entry, in ascending order. `O(n)`.
+    ///
+    /// ```
+    /// # use intervallum::IntervalMap;
+    /// let seats = IntervalMap::from([(1..=5, 20), (6..=9, 35), (12..=12, 25)]);
+    /// assert_eq!(seats.numbers_with(|euros| *euros <= 25).to_string(), "{[1..5][12..12]}");
+    /// ```
     #[doc = contract!(IntervalMap "numbers_with")]
     #[must_use]
     pub fn numbers_with(&self, test: impl Fn(&V) -> bool) -> IntervalSet<T> {
@@ -214,6 +258,13 @@ impl<T: Width, V: Clone + Eq> IntervalMap<T, V> {
     }
 
     /// Returns [`first_fit`](Self::first_fit), or `None` if its condition does not hold.
+    ///
+    /// ```
+    /// # use intervallum::IntervalMap;
+    /// let a = IntervalMap::from([(1..=5u8, "a")]);
+    /// assert_eq!((a.checked_first_fit(1.., 2), a.checked_first_fit(1.., 0)), (Some(Some(6..=7)), None));
+    /// ```
+    #[doc = contract!(of "first_fit")]
     #[must_use]
     pub fn checked_first_fit(&self, range: impl Piece<T>, count: T::Output) -> Option<Option<RangeInclusive<T>>> {
         let fit = || memory(self.asked(|map| map.first_fit(range.clamped(), count)));

@@ -6,10 +6,10 @@
 //! reserved as entries come, and not for the number of entries that the input claims.
 use super::IntervalMap;
 use super::below::{Entry, Held};
-use crate::proved::ops::{Bounded as _, Range as _};
+use crate::proved::ops::Bounded as _;
 use crate::proved::{Interval, width::Width};
 use crate::set::conditions::numbers_between;
-use crate::set::serde::bound;
+use crate::set::serde::run_between;
 use alloc::vec::Vec;
 use core::{fmt, marker::PhantomData};
 use serde::de::{Deserialize, Deserializer, Error, SeqAccess, Visitor};
@@ -47,19 +47,11 @@ impl<'de, T: Width + Deserialize<'de>, V: Clone + Eq + Deserialize<'de>> Visitor
     fn visit_seq<A: SeqAccess<'de>>(self, mut seq: A) -> Result<IntervalMap<T, V>, A::Error> {
         let mut entries = Vec::new();
         while let Some(((lower, upper), value)) = seq.next_element::<((T, T), V)>()? {
-            entries.push((run(bound(lower)?, bound(upper)?)?, Held(value)));
+            entries.push((run_between(lower, upper)?, Held(value)));
         }
         entries.sort_by_key(|(run, _)| run.lower());
         apart(&entries)?;
         Ok(IntervalMap::of_list(entries))
-    }
-}
-
-/// Returns the run between two bounds, of which the first must not be above the second.
-fn run<T: Width, E: Error>(lower: T, upper: T) -> Result<Interval<T>, E> {
-    match lower <= upper {
-        true => Ok(Interval::new(lower, upper)),
-        false => Err(E::custom(format_args!("{}..={}: a run must not cross", lower.number(), upper.number()))),
     }
 }
 

@@ -1,5 +1,6 @@
 //! The proved set below each set, and sets of either kind as operands.
-use super::conditions::memory;
+use super::conditions::{contract, memory};
+use super::making::outside;
 use super::{IntervalSet, PagedSet};
 use crate::proved::ivl_paged::PagedSet as ProvedPagedSet;
 use crate::proved::ops::{
@@ -321,6 +322,14 @@ macro_rules! below {
 
         impl<T: Width> $Set<T> {
             /// Lends the proved set. `from` converts both ways, without a copy.
+            ///
+            /// ```
+            #[doc = concat!("# use intervallum::", stringify!($Set), ";")]
+            #[doc = concat!("let a = ", stringify!($Set), "::from([1..=2, 5..=9u8]);")]
+            /// assert_eq!(a.as_proved().interval_count(), 2);
+            /// ```
+            #[doc = contract!(tested)]
+            #[must_use]
             pub fn as_proved(&self) -> Lent<'_, $Proved<T>> {
                 Lent(self.0.as_ref().map_or_else(|| Place::Made(Proved::nothing()), Place::There))
             }
@@ -341,9 +350,17 @@ macro_rules! below {
             }
         }
 
+        /// Takes the set, without a copy. Its members must be within the limits: where conditions are not tested, as in release
+        /// builds, a proved call whose condition does not hold may have made another.
         impl<T: Width> From<$Proved<T>> for $Set<T> {
+            #[track_caller]
             fn from(set: $Proved<T>) -> Self {
-                Self(Some(set))
+                match set.first().zip(set.last()) {
+                    Some((lower, upper)) if !Interval::in_range(lower, upper) => {
+                        outside::<T>(stringify!($Set), "from", lower.number(), upper.number())
+                    }
+                    _ => Self(Some(set)),
+                }
             }
         }
 

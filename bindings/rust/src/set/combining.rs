@@ -35,6 +35,13 @@ macro_rules! combining {
             /// Returns the members of both sets, as `&` does.
             #[doc = cost!($Set merge)]
             /// Of two `IntervalSet`s, `O(k log n)` if one has only `k` runs, far fewer than the other.
+            ///
+            /// ```
+            #[doc = concat!("# use intervallum::", stringify!($Set), ";")]
+            #[doc = concat!("let (a, b) = (", stringify!($Set), "::new(1, 5), ", stringify!($Set), "::from([0..=2, 5..=9]));")]
+            /// assert_eq!(a.intersection(&b).to_string(), "{[1..2][5..5]}");
+            /// assert_eq!(a.intersection(&b), &a & &b);
+            /// ```
             #[doc = contract!($Set "intersection")]
             #[must_use]
             pub fn intersection(&self, other: &impl AnySet<T>) -> Self {
@@ -44,6 +51,13 @@ macro_rules! combining {
             /// Returns the members that are not in `other`.
             #[doc = cost!($Set merge)]
             /// Or less as for [`intersection`](Self::intersection). The operator `-` is not this call: it subtracts members.
+            ///
+            /// ```
+            #[doc = concat!("# use intervallum::", stringify!($Set), ";")]
+            #[doc = concat!("let (a, b) = (", stringify!($Set), "::new(1, 9), ", stringify!($Set), "::from([0..=2, 5..=6]));")]
+            /// assert_eq!(a.difference(&b).to_string(), "{[3..4][7..9]}");
+            /// assert_eq!(b.difference(&a).to_string(), "[0..0]");
+            /// ```
             #[doc = contract!($Set "difference")]
             #[must_use]
             pub fn difference(&self, other: &impl AnySet<T>) -> Self {
@@ -52,6 +66,13 @@ macro_rules! combining {
 
             /// Returns the members of exactly one of the sets, as `^` does.
             #[doc = cost!($Set merge)]
+            ///
+            /// ```
+            #[doc = concat!("# use intervallum::", stringify!($Set), ";")]
+            #[doc = concat!("let (a, b) = (", stringify!($Set), "::new(1, 5), ", stringify!($Set), "::new(4, 9));")]
+            /// assert_eq!(a.symmetric_difference(&b).to_string(), "{[1..3][6..9]}");
+            /// assert_eq!(a.symmetric_difference(&b), &a ^ &b);
+            /// ```
             #[doc = contract!($Set "symmetric_difference")]
             #[must_use]
             pub fn symmetric_difference(&self, other: &impl AnySet<T>) -> Self {
@@ -125,6 +146,13 @@ macro_rules! combining {
 
             /// Returns the numbers of a range that are not members, and are within the limits.
             #[doc = cost!($Set part)]
+            ///
+            /// ```
+            #[doc = concat!("# use intervallum::", stringify!($Set), ";")]
+            #[doc = concat!("let busy = ", stringify!($Set), "::from([9..=10, 13..=15]);")]
+            /// let free = busy.gaps_within(8..18);
+            /// assert_eq!(free.to_string(), "{[8..8][11..12][16..17]}");
+            /// ```
             #[doc = contract!(lists $Set "gaps_within")]
             #[must_use]
             pub fn gaps_within(&self, range: impl Piece<T>) -> Self {

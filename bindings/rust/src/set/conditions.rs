@@ -98,6 +98,23 @@ macro_rules! contract {
     (path IntervalSet) => { "crate::proved::IntervalSet::" };
     (path PagedSet) => { "crate::proved::ivl_paged::PagedSet::" };
     (path IntervalMap) => { "crate::proved::ivl_map::IntervalMap::" };
+    // of a call that does what another one of the type does
+    (of $call:literal) => { concat!("\n\nContract: that of [`", $call, "`](Self::", $call, ").") };
+    // of a trait
+    (by $trait:literal $call:expr) => {
+        concat!("\n\nContract: [`proved::ops::", $trait, "::", $call, "`](crate::proved::ops::", $trait, "::", $call, ").")
+    };
+    (operator $op:tt) => {
+        concat!("\n\nContract: that of `", stringify!($op), "` of a [`proved::IntervalSet`](crate::proved::IntervalSet).")
+    };
+    (gathered) => {
+        "\n\nTested and not proved: made of what [`proved::sweep::coalesce`](crate::proved::sweep::coalesce) gives."
+    };
+    (tested) => { "\n\nTested and not proved." };
+    (nothing IntervalSet) => { contract!(over IntervalSet "empty") };
+    (nothing PagedSet) => { contract!(over PagedSet "new") };
+    (overlapping IntervalSet) => { contract!(over IntervalSet "runs_within") };
+    (overlapping PagedSet) => { contract!(over PagedSet "run_at") };
     // of a call that the proved paged set lacks
     (lists IntervalSet $call:literal) => { contract!(IntervalSet $call) };
     (lists PagedSet $call:literal) => {

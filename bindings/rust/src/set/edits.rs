@@ -31,12 +31,27 @@ macro_rules! edits {
             }
 
             /// Returns [`insert`](Self::insert), or `None` if its condition does not hold.
+            ///
+            /// ```
+            #[doc = concat!("# use intervallum::", stringify!($Set), ";")]
+            #[doc = concat!("let mut a = ", stringify!($Set), "::from(1..=3u8);")]
+            /// assert_eq!((a.checked_insert(3), a.checked_insert(4), a.checked_insert(255)), (Some(false), Some(true), None));
+            /// ```
+            #[doc = contract!(of "insert")]
+            #[must_use = "`None` says that nothing was added"]
             pub fn checked_insert(&mut self, value: T) -> Option<bool> {
                 Interval::in_range(value, value).then(|| memory(self.edited().insert(value)))
             }
 
             /// Removes a value, which may be any value of its type. Returns true exactly when it was a member.
             #[doc = cost!($Set edit)]
+            ///
+            /// ```
+            #[doc = concat!("# use intervallum::", stringify!($Set), ";")]
+            #[doc = concat!("let mut a = ", stringify!($Set), "::from(1..=9);")]
+            /// assert!(a.remove(5) && !a.remove(5) && !a.remove(-1));
+            /// assert_eq!(a.to_string(), "{[1..4][6..9]}");
+            /// ```
             #[doc = contract!($Set "remove")]
             pub fn remove(&mut self, value: T) -> bool {
                 memory(self.edited().remove(value))
@@ -60,6 +75,15 @@ macro_rules! edits {
             }
 
             /// Returns [`insert_interval`](Self::insert_interval), or `None` if its condition does not hold.
+            ///
+            /// ```
+            #[doc = concat!("# use intervallum::", stringify!($Set), ";")]
+            #[doc = concat!("let mut a = ", stringify!($Set), "::from(1..=3u8);")]
+            /// assert_eq!((a.checked_insert_interval(4..9), a.checked_insert_interval(9..=255)), (Some(true), None));
+            /// assert_eq!(a.to_string(), "[1..8]");
+            /// ```
+            #[doc = contract!(of "insert_interval")]
+            #[must_use = "`None` says that nothing was added"]
             pub fn checked_insert_interval(&mut self, range: impl Piece<T>) -> Option<bool> {
                 Some(self.add(range.interval()?))
             }
@@ -71,12 +95,26 @@ macro_rules! edits {
 
             /// Removes the numbers of a range. Returns true exactly when some of them were members.
             #[doc = cost!($Set edit_range)]
+            ///
+            /// ```
+            #[doc = concat!("# use intervallum::", stringify!($Set), ";")]
+            #[doc = concat!("let mut a = ", stringify!($Set), "::from(1..=9);")]
+            /// assert!(a.remove_interval(..3) && a.remove_interval(6..=7) && !a.remove_interval(6..=7));
+            /// assert_eq!(a.to_string(), "{[3..5][8..9]}");
+            /// ```
             #[doc = contract!($Set "remove_interval")]
             pub fn remove_interval(&mut self, range: impl Piece<T>) -> bool {
                 memory(self.edited().cut(range.clamped()))
             }
 
             /// Removes all members. An `IntervalSet` keeps its capacity.
+            ///
+            /// ```
+            #[doc = concat!("# use intervallum::", stringify!($Set), ";")]
+            #[doc = concat!("let mut a = ", stringify!($Set), "::from(1..=9);")]
+            /// a.clear();
+            /// assert!(a.is_empty());
+            /// ```
             #[doc = contract!($Set "clear")]
             pub fn clear(&mut self) {
                 self.edited().clear();
@@ -97,6 +135,12 @@ macro_rules! edits {
 
             /// Removes and returns the greatest member, or returns `None` if the set is empty.
             #[doc = cost!($Set pop)]
+            ///
+            /// ```
+            #[doc = concat!("# use intervallum::", stringify!($Set), ";")]
+            #[doc = concat!("let mut a = ", stringify!($Set), "::from([1..=1, 5..=6]);")]
+            /// assert_eq!((a.pop_last(), a.pop_last(), a.pop_last(), a.pop_last()), (Some(6), Some(5), Some(1), None));
+            /// ```
             #[doc = contract!($Set "pop_last")]
             pub fn pop_last(&mut self) -> Option<T> {
                 self.edited().pop_last()
@@ -119,6 +163,14 @@ macro_rules! edits {
             }
 
             /// Does what [`take_first_fit`](Self::take_first_fit) does, or returns `None` if its condition does not hold.
+            ///
+            /// ```
+            #[doc = concat!("# use intervallum::", stringify!($Set), ";")]
+            #[doc = concat!("let mut free = ", stringify!($Set), "::from([1..=2, 5..=9u8]);")]
+            /// assert_eq!((free.checked_take_first_fit(0), free.checked_take_first_fit(3)), (None, Some(Some(5..=7))));
+            /// ```
+            #[doc = contract!(of "take_first_fit")]
+            #[must_use = "what is taken is no member any more"]
             pub fn checked_take_first_fit(&mut self, count: T::Output) -> Option<Option<RangeInclusive<T>>> {
                 (count.number() > 0).then(|| self.edited().take_first_fit(count).as_ref().map(as_range))
             }
@@ -176,6 +228,7 @@ macro_rules! edits {
             /// a.append(&mut b);
             /// assert!(b.is_empty() && a.to_string() == "[1..9]");
             /// ```
+            #[doc = contract!(of "union")]
             pub fn append(&mut self, other: &mut Self) {
                 *self |= mem::take(other);
             }
@@ -190,6 +243,8 @@ macro_rules! edits {
             /// assert_eq!(a.checked_extend([9, 7]), Some(()));
             /// assert_eq!(a.to_string(), "{[1..2][7..7][9..9]}");
             /// ```
+            #[doc = contract!(gathered)]
+            #[must_use = "`None` says that nothing was added"]
             pub fn checked_extend<P: Pieces<T>>(&mut self, pieces: impl IntoIterator<Item = P>) -> Option<()> {
                 self.add_all(intervals_of(pieces).ok()?);
                 Some(())

@@ -12,10 +12,12 @@ use core::ops::RangeInclusive;
 use core::slice;
 
 /// An iterator over the runs of an [`IntervalSet`], in ascending order.
+#[must_use = "iterators do nothing unless they are consumed"]
 pub struct Runs<'a, T: Width>(pub(super) slice::Iter<'a, Interval<T>>);
 
 /// An iterator over the runs of a [`PagedSet`], in ascending order.
 #[derive(Clone)]
+#[must_use = "iterators do nothing unless they are consumed"]
 pub struct PagedRuns<'a, T: Width> {
     runs: Option<paged_set::Runs<'a, T>>,
     left: usize,
@@ -23,6 +25,7 @@ pub struct PagedRuns<'a, T: Width> {
 
 /// An iterator over the runs of a [`PagedSet`] that overlap a range, in ascending order. Each step is `O(log n)`.
 #[derive(Clone)]
+#[must_use = "iterators do nothing unless they are consumed"]
 pub struct PagedRunsWithin<'a, T: Width> {
     set: Option<&'a ProvedPagedSet<T>>,
     left: Option<(T, T)>,
@@ -30,6 +33,7 @@ pub struct PagedRunsWithin<'a, T: Width> {
 
 /// An iterator over the runs of a set that is consumed, in ascending order.
 #[derive(Clone)]
+#[must_use = "iterators do nothing unless they are consumed"]
 pub struct IntoRuns<T: Width> {
     set: IntervalSet<T>,
     first: usize,
@@ -41,6 +45,7 @@ pub struct IntoRuns<T: Width> {
 /// `nth`, `count`, `last`, `fold` and the like go from run to run and not from member to member. `size_hint` adds up what is left,
 /// run by run.
 #[derive(Clone)]
+#[must_use = "iterators do nothing unless they are consumed"]
 pub struct Members<T, R> {
     first: Option<(T, T)>,
     between: R,

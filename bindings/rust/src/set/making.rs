@@ -16,6 +16,7 @@ macro_rules! making {
             #[doc = concat!("static NONE: ", stringify!($Set), "<u32> = ", stringify!($Set), "::empty();")]
             /// assert!(NONE.is_empty());
             /// ```
+            #[doc = contract!(nothing $Set)]
             #[must_use]
             pub const fn empty() -> Self {
                 Self(None)
@@ -38,6 +39,13 @@ macro_rules! making {
             }
 
             /// Returns [`new`](Self::new), or `None` if its condition does not hold.
+            ///
+            /// ```
+            #[doc = concat!("# use intervallum::", stringify!($Set), ";")]
+            #[doc = concat!("assert_eq!(", stringify!($Set), "::checked_new(5, 5), Some(", stringify!($Set), "::singleton(5)));")]
+            #[doc = concat!("assert!(", stringify!($Set), "::checked_new(5, 1).is_none() && ", stringify!($Set), "::checked_new(0u8, 255).is_none());")]
+            /// ```
+            #[doc = contract!(of "new")]
             #[must_use]
             pub fn checked_new(lower: T, upper: T) -> Option<Self> {
                 let can = Interval::in_range(lower, upper) && lower <= upper;
@@ -45,6 +53,11 @@ macro_rules! making {
             }
 
             /// Returns the set of one value, which must be within the limits.
+            ///
+            /// ```
+            #[doc = concat!("# use intervallum::", stringify!($Set), ";")]
+            #[doc = concat!("assert_eq!(", stringify!($Set), "::singleton(7).runs().next(), Some(7..=7));")]
+            /// ```
             #[doc = contract!(lists $Set "singleton")]
             #[must_use]
             #[track_caller]
@@ -54,6 +67,12 @@ macro_rules! making {
             }
 
             /// Returns [`singleton`](Self::singleton), or `None` if its condition does not hold.
+            ///
+            /// ```
+            #[doc = concat!("# use intervallum::", stringify!($Set), ";")]
+            #[doc = concat!("assert!(", stringify!($Set), "::checked_singleton(254u8).is_some() && ", stringify!($Set), "::checked_singleton(255u8).is_none());")]
+            /// ```
+            #[doc = contract!(of "singleton")]
             #[must_use]
             pub fn checked_singleton(value: T) -> Option<Self> {
                 Self::checked_new(value, value)
@@ -78,6 +97,7 @@ macro_rules! making {
             #[doc = concat!("assert_eq!(", stringify!($Set), "::<u8>::limits(), 0..=254);")]
             #[doc = concat!("assert_eq!(", stringify!($Set), "::<char>::limits(), '\\0'..=char::MAX);")]
             /// ```
+            #[doc = contract!(tested)]
             #[must_use]
             pub fn limits() -> RangeInclusive<T> {
                 T::min_value()..=T::max_value()
@@ -85,6 +105,13 @@ macro_rules! making {
 
             /// Returns the set of every piece that an iterator yields, as `collect` does, or `None` if some number is outside
             /// the limits. `O(k log k)` for `k` pieces.
+            ///
+            /// ```
+            #[doc = concat!("# use intervallum::", stringify!($Set), ";")]
+            #[doc = concat!("assert_eq!(", stringify!($Set), "::checked_from_iter([3, 1, 2u8]), Some(", stringify!($Set), "::from(1..=3)));")]
+            #[doc = concat!("assert_eq!(", stringify!($Set), "::checked_from_iter([3, 255u8]), None);")]
+            /// ```
+            #[doc = contract!(gathered)]
             #[must_use]
             pub fn checked_from_iter<P: Pieces<T>>(pieces: impl IntoIterator<Item = P>) -> Option<Self> {
                 Some(Self::of_intervals(intervals_of(pieces).ok()?))
@@ -170,6 +197,6 @@ pub(crate) fn interval_of<T: Width>(set: &str, call: &str, piece: &impl Piece<T>
 
 #[cold]
 #[track_caller]
-fn outside<T: Width>(set: &str, call: &str, lower: i128, upper: i128) -> ! {
+pub(super) fn outside<T: Width>(set: &str, call: &str, lower: i128, upper: i128) -> ! {
     broken(set, format_args!("{call}({})", numbers_between(lower, upper)), within_range::<T>("the numbers"))
 }

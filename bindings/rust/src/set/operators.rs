@@ -1,6 +1,6 @@
 //! Operators: `|`, `&`, `^` and `!` of sets, and the arithmetic `+`, `-` and `*` of their members.
 use super::below::{Operation, Proved as _};
-use super::conditions::{Told, broken, memory, numbers_between, unless_broken, within_range};
+use super::conditions::{Told, broken, contract, memory, numbers_between, unless_broken, within_range};
 use super::{AnySet, IntervalSet, PagedSet};
 use crate::proved::{ops::Fits, width::Width};
 use core::fmt::{self, Display};
@@ -166,12 +166,27 @@ macro_rules! arithmetic {
         $tested:ident $fits_value:ident $checked_value:ident) => {
         impl<T: Width> IntervalSet<T> {
             #[doc = concat!("Returns true exactly when the ", $results, " of a member of each are all within the limits. `O(1)`.")]
+            ///
+            /// ```
+            /// # use intervallum::IntervalSet;
+            /// let (few, all) = (IntervalSet::from([1..=2, 6..=6i8]), IntervalSet::<i8>::whole());
+            #[doc = concat!("assert!(few.", stringify!($fits), "(&few) && !all.", stringify!($fits), "(&all));")]
+            /// ```
+            #[doc = contract!(by "Fits" stringify!($fits))]
             #[must_use]
             pub fn $fits(&self, other: &Self) -> bool {
                 self.as_proved().$fits(&*other.as_proved())
             }
 
             #[doc = concat!("Returns the ", $results, " of a member of each, or `None` if some are outside the limits.")]
+            ///
+            /// ```
+            /// # use intervallum::IntervalSet;
+            /// let (few, all) = (IntervalSet::from([1..=2, 6..=6i8]), IntervalSet::<i8>::whole());
+            #[doc = concat!("assert_eq!(few.", stringify!($checked), "(&few), Some(&few ", stringify!($op), " &few));")]
+            #[doc = concat!("assert_eq!(all.", stringify!($checked), "(&all), None);")]
+            /// ```
+            #[doc = contract!(operator $op)]
             #[must_use]
             pub fn $checked(&self, other: &Self) -> Option<Self> {
                 self.$fits(other).then(|| Self(Some(memory(&*self.as_proved() $op &*other.as_proved()))))
@@ -184,12 +199,27 @@ macro_rules! arithmetic {
             }
 
             #[doc = concat!("Returns true exactly when the ", $results, " of a member and a value are all within the limits. `O(1)`.")]
+            ///
+            /// ```
+            /// # use intervallum::IntervalSet;
+            /// let few = IntervalSet::from([1..=2, 6..=6i8]);
+            #[doc = concat!("assert!(few.", stringify!($fits_value), "(2) && !IntervalSet::<i8>::whole().", stringify!($fits_value), "(2));")]
+            /// ```
+            #[doc = contract!(by "Fits" stringify!($fits))]
             #[must_use]
             pub fn $fits_value(&self, value: T) -> bool {
                 self.as_proved().$fits(&value)
             }
 
             #[doc = concat!("Returns the ", $results, " of a member and a value, or `None` if some are outside the limits.")]
+            ///
+            /// ```
+            /// # use intervallum::IntervalSet;
+            /// let few = IntervalSet::from([1..=2, 6..=6i8]);
+            #[doc = concat!("assert_eq!(few.", stringify!($checked_value), "(2), Some(&few ", stringify!($op), " 2));")]
+            #[doc = concat!("assert_eq!(IntervalSet::<i8>::whole().", stringify!($checked_value), "(2), None);")]
+            /// ```
+            #[doc = contract!(operator $op)]
             #[must_use]
             pub fn $checked_value(&self, value: T) -> Option<Self> {
                 self.$fits_value(value).then(|| Self(Some(memory(&*self.as_proved() $op value))))

@@ -62,6 +62,13 @@ enum Wanted {
 
 impl ParseSetError {
     /// Returns how many bytes stand before what is wrong.
+    ///
+    /// ```
+    /// # use intervallum::IntervalSet;
+    /// assert_eq!("{[1..5][7]}".parse::<IntervalSet<u8>>().unwrap_err().position(), 7);
+    /// ```
+    ///
+    /// Tested and not proved.
     #[must_use]
     pub fn position(&self) -> usize {
         self.at

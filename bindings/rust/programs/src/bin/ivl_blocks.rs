@@ -1,6 +1,6 @@
-use intervallum_programs::{proved::ivl_blocks, rattle::runtime::HostRuntime};
+use intervallum_programs::{keep, proved::ivl_blocks};
 use std::process::ExitCode;
 
 fn main() -> ExitCode {
-    ivl_blocks::main(HostRuntime)
+    keep::main::<ivl_blocks::Lines>(ivl_blocks::main, &keep::BLOCKS)
 }

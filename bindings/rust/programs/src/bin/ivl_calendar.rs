@@ -1,6 +1,6 @@
-use intervallum_programs::{proved::ivl_calendar, rattle::runtime::HostRuntime};
+use intervallum_programs::{keep, proved::ivl_calendar};
 use std::process::ExitCode;
 
 fn main() -> ExitCode {
-    ivl_calendar::main(HostRuntime)
+    keep::main::<ivl_calendar::Lines>(ivl_calendar::main, &keep::CALENDAR)
 }

@@ -1,6 +1,6 @@
-use intervallum_programs::{proved::ivl_ports, rattle::runtime::HostRuntime};
+use intervallum_programs::{keep, proved::ivl_ports};
 use std::process::ExitCode;
 
 fn main() -> ExitCode {
-    ivl_ports::main(HostRuntime)
+    keep::main::<ivl_ports::Lines>(ivl_ports::main, &keep::PORTS)
 }

@@ -1,6 +1,6 @@
-use intervallum_programs::{proved::ivl_ranges, rattle::runtime::HostRuntime};
+use intervallum_programs::{keep, proved::ivl_ranges};
 use std::process::ExitCode;
 
 fn main() -> ExitCode {
-    ivl_ranges::main(HostRuntime)
+    keep::main::<ivl_ranges::Lines>(ivl_ranges::main, &keep::RANGES)
 }

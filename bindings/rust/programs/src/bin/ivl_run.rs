@@ -1,6 +1,6 @@
-use intervallum_programs::{proved::ivl_run, rattle::runtime::HostRuntime};
+use intervallum_programs::{keep, proved::ivl_run};
 use std::process::ExitCode;
 
 fn main() -> ExitCode {
-    ivl_run::main(HostRuntime)
+    keep::main::<ivl_run::Lines>(ivl_run::main, &keep::RUN)
 }

@@ -1,6 +1,6 @@
-use intervallum_programs::{proved::ivl_solve, rattle::runtime::HostRuntime};
+use intervallum_programs::{keep, proved::ivl_solve};
 use std::process::ExitCode;
 
 fn main() -> ExitCode {
-    ivl_solve::main(HostRuntime)
+    keep::main::<ivl_solve::Lines>(ivl_solve::main, &keep::SOLVE)
 }

@@ -30,7 +30,8 @@ Keeps the free blocks of a disk, from 0 to 1099511627775: reads one line at a ti
 --version prints the version.
 ";
 
-struct Lines;
+/// The lines of this program.
+pub struct Lines;
 
 impl Program for Lines {
     const NAME: &'static str = "ivl_blocks";

@@ -30,7 +30,8 @@ what it found before that; `solve n` ends with `more possible` where there may b
 --version prints the version.
 ";
 
-struct Lines;
+/// The lines of this program.
+pub struct Lines;
 
 impl Program for Lines {
     const NAME: &'static str = "ivl_solve";

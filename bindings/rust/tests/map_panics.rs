@@ -1,0 +1,146 @@
+//! Code of a value, or a function that an edit asks, panics at each place of each edit in turn: then a map is still the list of its
+//! longest entries, and the numbers that the edit did not name keep their values.
+use intervallum::{IntervalMap, IntervalSet};
+use std::cell::Cell;
+use std::ops::RangeInclusive;
+use std::panic::{self, AssertUnwindSafe};
+use std::thread;
+
+thread_local! {
+    /// How many steps are left until one panics; none does at `usize::MAX`.
+    static LEFT: Cell<usize> = const { Cell::new(usize::MAX) };
+}
+
+/// A step of the code of a value. A second panic at once would end the process.
+fn step(what: &'static str) {
+    if LEFT.get() != usize::MAX && !thread::panicking() {
+        LEFT.set(LEFT.get() - 1);
+        if LEFT.get() == 0 {
+            LEFT.set(usize::MAX);
+            // of thousands of panics none needs to be told
+            panic::resume_unwind(Box::new(what));
+        }
+    }
+}
+
+#[derive(Debug)]
+struct Touchy(u32);
+
+impl Clone for Touchy {
+    fn clone(&self) -> Self {
+        step("clone");
+        Touchy(self.0)
+    }
+}
+
+impl PartialEq for Touchy {
+    fn eq(&self, other: &Self) -> bool {
+        step("eq");
+        self.0 == other.0
+    }
+}
+
+impl Eq for Touchy {}
+
+impl Drop for Touchy {
+    fn drop(&mut self) {
+        step("drop");
+    }
+}
+
+type Map = IntervalMap<u8, Touchy>;
+
+const LAST: u8 = 12;
+
+/// The value of each number.
+fn values(map: &Map) -> Vec<Option<u32>> {
+    (0..=LAST).map(|number| map.get(number).map(|value| value.0)).collect()
+}
+
+fn are_longest_entries(map: &Map) -> bool {
+    let entries: Vec<_> = map.iter().collect();
+    entries.iter().all(|(run, _)| run.start() <= run.end())
+        && entries.windows(2).all(|pair| {
+            let (end, next) = (*pair[0].0.end(), *pair[1].0.start());
+            end < next && (end + 1 < next || pair[0].1.0 != pair[1].1.0)
+        })
+}
+
+/// Makes an edit of the numbers of a range so often that each step of it has panicked once, and returns the number of steps.
+fn at_each_step(entries: &[(RangeInclusive<u8>, u32)], range: RangeInclusive<u8>, edit: impl Fn(&mut Map)) -> usize {
+    for steps in 1.. {
+        let mut map: Map = entries.iter().map(|(run, value)| (run.clone(), Touchy(*value))).collect();
+        let before = values(&map);
+        LEFT.set(steps);
+        let told = panic::catch_unwind(AssertUnwindSafe(|| edit(&mut map)));
+        LEFT.set(usize::MAX);
+        assert!(are_longest_entries(&map), "{entries:?}, {range:?}, step {steps}: {told:?}, {map:?}");
+        for number in (0..=LAST).filter(|number| !range.contains(number)) {
+            let (now, then) = (map.get(number).map(|value| value.0), before[usize::from(number)]);
+            assert_eq!(now, then, "{entries:?}, {range:?}, step {steps}: {told:?}, {map:?} at {number}");
+        }
+        if told.is_ok() {
+            return steps - 1;
+        }
+    }
+    unreachable!("an edit has an end")
+}
+
+/// Maps whose entries touch, or not, with equal values on two sides of each.
+const MAPS: [&[(RangeInclusive<u8>, u32)]; 6] = [
+    &[],
+    &[(0..=12, 1)],
+    &[(1..=3, 2), (7..=9, 1)],
+    &[(0..=2, 1), (3..=3, 2), (4..=6, 1), (8..=8, 1), (10..=12, 2)],
+    &[(0..=0, 1), (2..=2, 2), (3..=4, 1), (5..=5, 3), (6..=7, 2), (9..=9, 1), (10..=12, 3)],
+    &[(1..=1, 1), (2..=2, 2), (3..=3, 1), (4..=4, 2), (5..=5, 1), (6..=6, 2), (7..=7, 1)],
+];
+
+/// Makes an edit of each range of each map, and returns the number of steps that panicked.
+fn everywhere(edit: impl Fn(&mut Map, RangeInclusive<u8>)) -> usize {
+    let ranges = (0..=LAST).flat_map(|lower| (lower..=LAST).map(move |upper| lower..=upper));
+    let places = MAPS.iter().flat_map(|entries| ranges.clone().map(move |range| (entries, range)));
+    places.map(|(entries, range)| at_each_step(entries, range.clone(), |map| edit(map, range.clone()))).sum()
+}
+
+#[test]
+fn edits_of_a_range() {
+    for value in 1..=3 {
+        assert!(everywhere(|map, range| map.insert(range, Touchy(value))) > 1000);
+        assert!(everywhere(|map, range| _ = map.insert_if_free(range, Touchy(value)).is_ok()) > 300);
+    }
+    assert!(everywhere(|map, range| _ = map.remove(range)) > 500);
+}
+
+#[test]
+fn edits_by_a_function_and_of_more_entries() {
+    let halved = |map: &mut Map, range| {
+        map.update(range, |value| {
+            step("function");
+            Touchy(value.0 / 2)
+        })
+    };
+    assert!(everywhere(halved) > 1000);
+    let both = |map: &mut Map, range: RangeInclusive<u8>| {
+        let end = *range.end();
+        map.extend([(range, Touchy(1)), (end..=end, Touchy(2)), (end..=end, Touchy(1))]);
+    };
+    assert!(everywhere(both) > 1000);
+    for entries in MAPS {
+        assert_eq!(at_each_step(entries, 0..=LAST, IntervalMap::clear), entries.len());
+    }
+}
+
+#[test]
+fn an_entry_that_grows_over_others() {
+    let entries = [(7..=9, 2), (15..=19, 1)];
+    let told = |map: &IntervalMap<u8, Touchy>| map.iter().map(|(run, value)| (run, value.0)).collect::<Vec<_>>();
+    let mut map: Map = entries.iter().map(|(run, value)| (run.clone(), Touchy(*value))).collect();
+    // the comparison with 1, then the drop of the value in whose place the longer entry comes
+    LEFT.set(3);
+    let fault = panic::catch_unwind(AssertUnwindSafe(|| map.insert(9..=14, Touchy(1)))).unwrap_err();
+    LEFT.set(usize::MAX);
+    assert_eq!(fault.downcast_ref::<&str>(), Some(&"drop"));
+    assert_eq!(told(&map), [(7..=8, 2), (15..=19, 1)]);
+    assert_eq!(map.gaps_within(7..=19), IntervalSet::from([9..=14]));
+}
