@@ -16,7 +16,8 @@ use std::slice;
 /// The version of the package as one number: 20000 is 2.0.0.
 #[unsafe(no_mangle)]
 extern "C" fn ivl_version() -> i64 {
-    const VERSION: [&str; 3] = [env!("CARGO_PKG_VERSION_MAJOR"), env!("CARGO_PKG_VERSION_MINOR"), env!("CARGO_PKG_VERSION_PATCH")];
+    const VERSION: [&str; 3] =
+        [env!("CARGO_PKG_VERSION_MAJOR"), env!("CARGO_PKG_VERSION_MINOR"), env!("CARGO_PKG_VERSION_PATCH")];
     VERSION.iter().fold(0, |number, part| 100 * number + part.parse().unwrap_or(0))
 }
 
