@@ -506,6 +506,7 @@ def changing(count):
             assert made.first_fit_from(value, 2) == made.frozen().first_fit_from(value, 2)
         assert made == pickle.loads(pickle.dumps(made)) == copy.deepcopy(made) == made.copy() and made.copy() is not made
         assert not plain or (made.min(), made.max()) == (min(plain), max(plain))
+        assert ~~made == made and not ~made & made and (~made).size == 2**64 - 1 - len(plain)
     empty = MutableIntervalSet()
     for call in (empty.pop, empty.pop_last, lambda: empty.remove(5)):
         raises(KeyError, call)

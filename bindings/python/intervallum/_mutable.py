@@ -341,6 +341,10 @@ class MutableIntervalSet(collections.abc.MutableSet[int]):
         answer: bool = call(self.frozen(), other.frozen() if isinstance(other, MutableIntervalSet) else other)
         return answer
 
+    def __invert__(self) -> MutableIntervalSet:
+        """Returns the complement within the range."""
+        return self._of(self._set.made("complement"))
+
     def isdisjoint(self, other: Iterable[Any]) -> bool:
         """Returns whether no number is in both sets."""
         return not self._set.call("overlap", self._handle_of(other))
