@@ -70,6 +70,9 @@ fn paged_sets_panic_with_the_values() {
         set().first_fit(0) => "PagedSet::first_fit(0): the count must be above 0";
         set().first_fit_from(12, 0) => "PagedSet::first_fit_from(12, 0): the count must be above 0";
         set().take_first_fit(0) => "PagedSet::take_first_fit(0): the count must be above 0";
+        set().last_fit(0) => "PagedSet::last_fit(0): the count must be above 0";
+        set().first_fit_aligned(2, 0) => "PagedSet::first_fit_aligned(2, 0): the count and what it is aligned to must be above 0";
+        set().shifted(-11) => "PagedSet::shifted(-11): the moved members must be from 0 to 254";
         set().extend([1, 255]) => "PagedSet::extend(255): the numbers must be from 0 to 254";
         [3..=4, 0..=255].into_iter().collect::<PagedSet<u8>>() => "PagedSet::from_iter(0..=255): the numbers must be from 0 to 254";
         PagedSet::from([(1, 255u8)]) => "PagedSet::from(1..=255): the numbers must be from 0 to 254";

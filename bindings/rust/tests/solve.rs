@@ -105,7 +105,7 @@ impl<T: Width + std::fmt::Debug> Tried<T> {
 fn models_of<T: Width + std::fmt::Debug>(least: i128, seed: u64) {
     let mut random = Random(seed);
     let mut solved = 0;
-    for round in 0..if cfg!(debug_assertions) { 100 } else { 3000 } {
+    for round in 0..if cfg!(debug_assertions) { 300 } else { 3000 } {
         let mut tried = Tried::<T>::of(&mut random, least);
         for _ in 0..1 + random.below(3) {
             tried.add_rule(&mut random);
@@ -179,8 +179,9 @@ fn told(call: impl FnOnce()) -> (String, String, u32) {
     panic::set_hook(Box::new(move |info| {
         *seen.lock().unwrap() = info.location().map(|at| (at.file().to_owned(), at.line()));
     }));
-    let fault = panic::catch_unwind(AssertUnwindSafe(call)).unwrap_err();
+    let fault = panic::catch_unwind(AssertUnwindSafe(call));
     panic::set_hook(hook);
+    let fault = fault.expect_err("the call panics");
     let (file, line) = place.lock().unwrap().take().unwrap();
     (*fault.downcast::<String>().unwrap(), file, line)
 }
@@ -188,7 +189,7 @@ fn told(call: impl FnOnce()) -> (String, String, u32) {
 #[test]
 fn a_wrong_call_is_told_at_its_line() {
     let mut model = Model::new();
-    let (x, y) = (model.variable(0..=9u8), model.variable(0..=200));
+    let (x, y) = (model.variable(0..=9u8), model.variable(0..=250));
     let mut other = Model::new();
     let far = other.variables(9, 1..=2u8)[8];
     let mut all = Model::new();
