@@ -112,7 +112,7 @@ impl<T: Width> Model<T> {
     /// model.restrict(x, 4..);
     /// assert_eq!(model.domain(x).to_string(), "[4..5]");
     /// ```
-    #[doc = contract!(IntervalSet "intersection")]
+    #[doc = contract!(by "Intersection" "intersection")]
     #[track_caller]
     pub fn restrict(&mut self, variable: Variable, domain: impl Pieces<T>) {
         let index = self.known("restrict", variable);
