@@ -50,7 +50,9 @@ fn solve(options: &Options) -> ExitCode {
         Err(fault) => {
             let place = if fault.line > 0 { format!("{}:{}", options.file, fault.line) } else { options.file.clone() };
             eprintln!("{place}: {}", fault.text);
-            println!("{}", output::ERROR);
+            let mut output = output.lock().unwrap_or_else(PoisonError::into_inner);
+            // (where nobody reads, nothing can be told)
+            let _ = output.print(&format!("{}\n", output::ERROR));
             ExitCode::FAILURE
         }
     }
