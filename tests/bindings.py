@@ -515,6 +515,11 @@ def changing(count):
     raises(TypeError, lambda: hash(empty), "unhashable")
     raises(ValueError, empty.min, "the set is empty")
     empty.discard(2**70), empty.discard_run(-(2**70), 2**70)
+    # what lies below the range, or above, is no part of it
+    for made in (MutableIntervalSet([0, 2**64 - 2], bounds="u64"), MutableIntervalSet([-(2**63) + 1, 2**63 - 1])):
+        made.discard_run(-(2**70), made.min() - 1), made.discard_run(made.max() + 1, 2**70)
+        assert len(made) == 2 and not made.gaps_within(-(2**70), made.min() - 1) and not made.gaps_within(made.max() + 1, 2**70)
+        assert not made.frozen().gaps_within(-(2**70), made.min() - 1) and made.gaps_within(-(2**70), 2**70) == ~made.frozen()
     assert not empty and empty.rank(2**70) == 0 and empty.next_from(2**70) is None and isinstance(empty, collections.abc.MutableSet)
     # a handle lives as long as a call needs it, and ends with its object
     for _ in range(100):
@@ -569,6 +574,9 @@ def maps(count):
         many.set(5, 9, "value %d" % n)
     assert list(many) == [((5, 9), "value 2999")] and len(many._values) < 200, len(many._values)
     raises(KeyError, lambda: many[4], "4")
+    low = IntervalMap([((0, 3), "low")], bounds="u64")
+    low.remove(-5, -1)
+    assert len(low) == 1 and not low.gaps_within(-9, -1) and low.first_fit(-9, -1, 1) is None and not list(low.overlapping(-9, -1))
     for wrong in ([(1, 2)], [5], [((1, 2, 3), 4)], {1: 2}):
         raises(TypeError, lambda: IntervalMap(wrong), "an entry is a pair of bounds and a value")
     raises(OutOfRange, lambda: many.set(1, 2**63, 0), "9223372036854775808 is outside the range of i64")

@@ -571,7 +571,8 @@ class IntervalSet(collections.abc.Set[int]):
         >>> IntervalSet([(1, 2), (5, 6)]).gaps_within(0, 9)
         IntervalSet([(0, 0), (3, 4), (7, 9)])
         """
-        return IntervalSet.of(lower, upper, bounds=self._type.name) - self
+        low, high = max(operator.index(lower), self._type.range[0]), min(operator.index(upper), self._type.range[1])
+        return IntervalSet([(low, high)] if low <= high else (), bounds=self._type.name) - self
 
     def min(self) -> int:
         """Returns the least member. `min(s)` is the same, but looks at each member.

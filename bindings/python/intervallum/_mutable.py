@@ -81,6 +81,12 @@ def _near(bounds: _Bounds, value: SupportsIndex) -> int:
     return min(max(operator.index(value), low), high)
 
 
+def _window(bounds: _Bounds, lower: SupportsIndex, upper: SupportsIndex) -> tuple[int, int]:
+    """The part of an interval that is in the range; that of none is crossed."""
+    low, high = max(operator.index(lower), bounds.range[0]), min(operator.index(upper), bounds.range[1])
+    return (low, high) if low <= high else (1, 0)
+
+
 class MutableIntervalSet(collections.abc.MutableSet[int]):
     """A set of whole numbers that changes, in pages of runs: an edit is logarithmic, whatever the number of runs.
 
@@ -144,7 +150,7 @@ class MutableIntervalSet(collections.abc.MutableSet[int]):
 
     def discard_run(self, lower: SupportsIndex, upper: SupportsIndex) -> None:
         """Removes the numbers from `lower` to `upper`, both included."""
-        self._set.call("remove_run", _near(self._set.type, lower), _near(self._set.type, upper))
+        self._set.call("remove_run", *_window(self._set.type, lower, upper))
 
     def update(self, *others: Iterable[Item]) -> None:
         """Adds numbers, ranges, pairs and sets."""
@@ -351,7 +357,7 @@ class MutableIntervalSet(collections.abc.MutableSet[int]):
 
     def gaps_within(self, lower: SupportsIndex, upper: SupportsIndex) -> IntervalSet:
         """Returns the numbers from `lower` to `upper` that are no members."""
-        return self._of(self._set.made("gaps_within", _near(self._set.type, lower), _near(self._set.type, upper))).frozen()
+        return self._of(self._set.made("gaps_within", *_window(self._set.type, lower, upper))).frozen()
 
     def copy(self) -> MutableIntervalSet:
         """Returns a set of its own with the same members."""
@@ -465,7 +471,7 @@ class IntervalMap(Generic[V]):
 
     def remove(self, lower: SupportsIndex, upper: SupportsIndex) -> None:
         """Takes the values of the numbers from `lower` to `upper`, both included."""
-        self._map.call("remove", _near(self._map.type, lower), _near(self._map.type, upper))
+        self._map.call("remove", *_window(self._map.type, lower, upper))
 
     def clear(self) -> None:
         """Takes all values."""
@@ -523,7 +529,7 @@ class IntervalMap(Generic[V]):
 
     def overlapping(self, lower: SupportsIndex, upper: SupportsIndex) -> Iterator[tuple[tuple[int, int], V]]:
         """Yields the entries that have a number from `lower` to `upper`."""
-        low, high = _near(self._map.type, lower), operator.index(upper)
+        low, high = _window(self._map.type, lower, upper)
         if low <= high:
             yield from ((run, self._values[number]) for run, number in self._numbered(low, high))
 
@@ -560,13 +566,12 @@ class IntervalMap(Generic[V]):
 
     def gaps_within(self, lower: SupportsIndex, upper: SupportsIndex) -> IntervalSet:
         """Returns the numbers from `lower` to `upper` that have no value."""
-        low, high = _near(self._map.type, lower), _near(self._map.type, upper)
-        return MutableIntervalSet._of(self._map.made("gaps_within", low, high)).frozen()
+        return MutableIntervalSet._of(self._map.made("gaps_within", *_window(self._map.type, lower, upper))).frozen()
 
     def first_fit(self, lower: SupportsIndex, upper: SupportsIndex, count: SupportsIndex) -> tuple[int, int] | None:
         """Returns the lowest `count` consecutive numbers from `lower` to `upper` that have no value as a pair, or None."""
-        low, high, number = _near(self._map.type, lower), _near(self._map.type, upper), operator.index(count)
-        return self._map.run("first_fit", low, high, number) if 0 < number < 2**64 else None
+        number = operator.index(count)
+        return self._map.run("first_fit", *_window(self._map.type, lower, upper), number) if 0 < number < 2**64 else None
 
     def __eq__(self, other: object) -> bool:
         if not isinstance(other, IntervalMap):
