@@ -57,7 +57,7 @@ macro_rules! fits {
             ///
             /// ```
             #[doc = concat!("# use intervallum::", stringify!($Set), ";")]
-            #[doc = concat!("let free = ", stringify!($Set), "::from([0x100..=0x10f, 0x1234..=0x5fff]);")]
+            #[doc = concat!("let free = ", stringify!($Set), "::from([0x100..=0x10f, 0x1234..=0x5fff_u32]);")]
             /// assert_eq!(free.first_fit_aligned(0x800, 0x1000), Some(0x2000..=0x27ff));
             /// assert_eq!(free.first_fit_aligned(16, 16), Some(0x100..=0x10f));
             /// ```

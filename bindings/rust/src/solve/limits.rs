@@ -15,7 +15,7 @@ use crate::set::conditions::contract;
 /// model.all_different(&pair);
 /// let limits = Limits::default().solutions(2);
 /// assert_eq!((model.solutions(limits).len(), model.solutions(limits).end()), (2, End::Solutions));
-/// assert_eq!(model.count(limits.nodes(1)), (1, End::Nodes));
+/// assert_eq!(model.count(limits.nodes(1)).1, End::Nodes);
 /// ```
 #[derive(Clone, Copy, Debug, PartialEq, Eq)]
 pub struct Limits(pub(super) search::Limits);
