@@ -47,6 +47,7 @@
 
 pub mod intervallum;
 pub mod ivl_expr;
+pub mod ivl_images;
 pub mod ivl_interval;
 #[cfg(feature = "json")]
 pub mod ivl_json;
@@ -60,6 +61,7 @@ pub mod ivl_map;
 pub mod ivl_merges;
 pub mod ivl_network;
 pub mod ivl_paged;
+pub mod ivl_places;
 pub mod ivl_rules;
 pub mod ivl_search;
 pub mod ivl_store;

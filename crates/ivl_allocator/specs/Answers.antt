@@ -8,7 +8,7 @@ use Rattle.ivl_laws.specs.Runs.{Covers, IsRunsOf}
 use Rattle.ivl_laws.specs.Sets.{HasNone, Intersection, IsBetween, IsSubset, Union, Without}
 use Rattle.ivl_lines.specs.Lines.{with_newline}
 use Rattle.ivl_lines.specs.Sets.{run_text}
-use Rattle.intervallum.specs.FirstFit.{FitsAt, IsFirstFit}
+use Rattle.ivl_places.specs.FirstFit.{FitsAt, IsFirstFit}
 
 abbrev pub IsFreeSet : ℕ → ℕ → List (ℤ × ℤ) → Type 0
 IsFreeSet first last L = IsSubset (Covers L) (IsBetween (pos first, pos last))

@@ -8,9 +8,9 @@ use Rattle.ivl_laws.specs.Counts.{IsIn}
 use Rattle.ivl_laws.specs.Runs.{Covers, IsMaximal}
 use Rattle.ivl_laws.proofs.Intervals.{width_of-filled}
 use Rattle.ivl_laws.proofs.Products.{one_covers, open_in}
-use Rattle.intervallum.specs.FirstFit.{FitsAt, IsFirstFit}
-use Rattle.intervallum.specs.Neighbours.{IsRunWith}
-use Rattle.intervallum.proofs.Fits.{run_is_listed}
+use Rattle.ivl_places.specs.FirstFit.{FitsAt, IsFirstFit}
+use Rattle.ivl_places.specs.Neighbours.{IsRunWith}
+use Rattle.ivl_places.proofs.Fits.{run_is_listed}
 use Rattle.ivl_paged.specs.Longests.{NoneLonger}
 use Rattle.ivl_paged.proofs.Fitting.{fewer_fit}
 use Rattle.ivl_paged.proofs.Paging.{order_of, parts_apart}

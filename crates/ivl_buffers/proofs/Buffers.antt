@@ -4,7 +4,7 @@ use Rattle.std.proofs.lemmas.List.{map-set, length-map}
 use Rattle.ivl_laws.specs.Sets.{HasSome, IsBetween}
 use Rattle.ivl_laws.specs.Runs.{IsMaximal}
 use Rattle.ivl_laws.proofs.Runs.{lower_end, pair_same}
-use Rattle.intervallum.proofs.Images.{open_here}
+use Rattle.ivl_images.proofs.Images.{open_here}
 
 pub write_more : {X : Type 0} (L room : List X) (i : ℕ) (d : X) → i < length L → length L ≤ length room → d ≡ get_or L i d →
     set (take i L ++ drop i room) i d ≡ take (suc i) L ++ drop (suc i) room

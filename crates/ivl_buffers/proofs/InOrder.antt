@@ -6,7 +6,7 @@ use Rattle.std.proofs.lemmas.Option.{slice_get_past, slice_get_read}
 use lib.Signed.{≤ℤ_refl}
 use Rattle.ivl_laws.specs.Sets.{AtLeast, HasNone, IsBetween, IsSubset}
 use Rattle.ivl_laws.specs.Runs.{Covers}
-use Rattle.intervallum.specs.Places.{EndBelow, EndsFrom}
+use Rattle.ivl_places.specs.Places.{EndBelow, EndsFrom}
 use Rattle.ivl_buffers.specs.Lookup.{IsFirstFrom, IsNextIn, TellsAt}
 use Rattle.ivl_buffers.specs.Lists.{IsInOrder}
 

@@ -4,7 +4,7 @@ use Rattle.std.proofs.lemmas.Int.{ints}
 use Rattle.std.specs.Prelude.{Option, Some, None, MatchOption}
 use Rattle.ivl_laws.specs.Sets.{IsBetween, IsSubset, SameMembers, Union}
 use Rattle.ivl_laws.specs.Runs.{Covers}
-use Rattle.intervallum.specs.FirstFit.{FitsAt, IsFirstFit}
+use Rattle.ivl_places.specs.FirstFit.{FitsAt, IsFirstFit}
 use Rattle.ivl_buffers.specs.Lookup.{IsFitIn, IsNextIn}
 
 -- ---- the lesser of two

@@ -4,8 +4,8 @@ use Rattle.std.proofs.lemmas.Bool.Decides.{nat_tests}
 use Rattle.std.proofs.lemmas.Int.{ints}
 use Rattle.ivl_laws.specs.Runs.{IsRunListIn}
 use Rattle.ivl_buffers.specs.Links.{AreLinked, EndsIn, StartsIn}
-use Rattle.ivl_merges.specs.Sinks.{IsRunIn}
-use Rattle.ivl_merges.proofs.Suffixes.{first_is_run}
+use Rattle.ivl_walks.specs.Sinks.{IsRunIn}
+use Rattle.ivl_walks.proofs.Suffixes.{first_is_run}
 use Rattle.ivl_buffers.proofs.RunLists.{more_is_list, one_is_list}
 
 pub some_from : (n : ℕ) (t : Bool) → t ≡ (n == 0) → t ≡ false → 0 < n

@@ -3,7 +3,7 @@ use Rattle.std.proofs.Common.{◌≡◌, ℕ, ◌≤◌, ℤ, pos, List, [], ◌
 use Rattle.std.proofs.lemmas.Bool.{le-leb}
 use Rattle.std.specs.Prelude.{nat_le}
 use Rattle.ivl_laws.proofs.SetLaws.{IsRunsOf-unique}
-use Rattle.ivl_merges.specs.Sinks.{IsMerged, laid}
+use Rattle.ivl_walks.specs.Sinks.{IsMerged, laid}
 use Rattle.ivl_buffers.specs.Answers.{IsWritten, written}
 use Rattle.ivl_buffers.specs.Merging.{IsLaid}
 

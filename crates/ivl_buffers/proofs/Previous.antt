@@ -6,9 +6,9 @@ use Rattle.std.proofs.lemmas.Option.{get_or_from_slice_get, slice_get-map, slice
 use lib.Signed.{≤ℤ_refl}
 use Rattle.ivl_laws.specs.Sets.{AtMost, HasNone, IsBetween, IsSubset}
 use Rattle.ivl_laws.specs.Runs.{Covers, IsMaximal}
-use Rattle.intervallum.specs.Neighbours.{IsRunWith}
-use Rattle.intervallum.specs.Places.{EndBelow, EndsFrom}
-use Rattle.intervallum.proofs.Neighbours.{run_at_place}
+use Rattle.ivl_places.specs.Neighbours.{IsRunWith}
+use Rattle.ivl_places.specs.Places.{EndBelow, EndsFrom}
+use Rattle.ivl_places.proofs.Neighbours.{run_at_place}
 use Rattle.ivl_buffers.specs.Beside.{IsPreviousIn}
 use Rattle.ivl_buffers.specs.Lookup.{TellsAt}
 use Rattle.ivl_buffers.specs.Lists.{IsInOrder}

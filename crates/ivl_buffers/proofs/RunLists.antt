@@ -6,8 +6,8 @@ use lib.Signed.{≤ℤ_refl}
 use Rattle.ivl_laws.specs.Sets.{IsBetween, IsInRange}
 use Rattle.ivl_laws.specs.Runs.{Covers, IsRunListIn}
 use Rattle.ivl_laws.proofs.Adding.{untrue}
-use Rattle.ivl_merges.specs.Sinks.{IsRunIn}
-use Rattle.ivl_merges.proofs.Suffixes.{first_is_run, rest_all, rest_at, rest_list, rest_none}
+use Rattle.ivl_walks.specs.Sinks.{IsRunIn}
+use Rattle.ivl_walks.proofs.Suffixes.{first_is_run, rest_all, rest_at, rest_list, rest_none}
 
 -- ---- tests of one pair, and of two
 

@@ -5,7 +5,7 @@
 --         member
 use Rattle.std.specs.Prelude.{◌≡◌, ◌⊎◌, ℤ, Option, MatchOption, Bool, true, false}
 use Rattle.ivl_laws.specs.Sets.{AtMost, HasNone}
-use Rattle.intervallum.specs.Neighbours.{IsGreatest, IsRunWith}
+use Rattle.ivl_places.specs.Neighbours.{IsGreatest, IsRunWith}
 
 abbrev pub IsPreviousIn : ℤ → (ℤ → Type 0) → Option ℤ → Type 0
 IsPreviousIn v S previous = MatchOption previous (HasNone (AtMost v S)) (λ x. IsGreatest x (AtMost v S))

@@ -6,7 +6,7 @@
 --     EndsIn whole L      the last pair, if there is one, is a run in the range
 use Rattle.std.specs.Prelude.{ℤ, pos, ◌+ℤ◌, ◌≤ℤ◌, List, [], ◌∷◌}
 use Rattle.ivl_laws.specs.Sets.{IsBetween}
-use Rattle.ivl_merges.specs.Sinks.{IsRunIn}
+use Rattle.ivl_walks.specs.Sinks.{IsRunIn}
 
 abbrev pub IsLinked : ℤ × ℤ → ℤ × ℤ → ℤ × ℤ → Type 0
 IsLinked whole p q = (p.0 ≤ℤ p.1) × IsBetween whole (p.1 +ℤ pos 1) × ((p.1 +ℤ pos 2) ≤ℤ q.0)

@@ -7,8 +7,8 @@
 --     AnswersFit whole n S old new told      what a call tells that looks for these
 use Rattle.std.specs.Prelude.{◌≡◌, ◌↔◌, ◌⊎◌, IsTrue, ◌<◌, ℕ, ℤ, ◌≤ℤ◌, pos, Option, MatchOption, Bool, true, false}
 use Rattle.ivl_laws.specs.Sets.{AtLeast, HasNone, IsBetween, IsSubset}
-use Rattle.intervallum.specs.Neighbours.{IsLeast}
-use Rattle.intervallum.specs.FirstFit.{FitsAt, IsFirstFit}
+use Rattle.ivl_places.specs.Neighbours.{IsLeast}
+use Rattle.ivl_places.specs.FirstFit.{FitsAt, IsFirstFit}
 use Rattle.ivl_buffers.specs.Answers.{out_of_memory, out_of_range}
 
 pub record IsFirstFrom (v : ℤ) (S : ℤ → Type 0) (p : ℤ × ℤ) : Type 0 where

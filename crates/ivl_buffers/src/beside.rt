@@ -3,7 +3,7 @@
 ghost use Rattle.std.specs.Prelude.{◌≡◌, ◌↔◌, false, IfSome, IsTrue, MatchOption, map, option_map};
 ghost use Rattle.ivl_laws.specs.Sets.{AtMost, IsBetween, IsSubset};
 ghost use Rattle.ivl_laws.specs.Runs.{Covers, IsMaximal};
-ghost use Rattle.intervallum.specs.Neighbours.{IsRunWith};
+ghost use Rattle.ivl_places.specs.Neighbours.{IsRunWith};
 ghost use Rattle.ivl_buffers.specs.Beside.{AnswersPrevious, AnswersRun, IsPreviousIn};
 ghost use Rattle.ivl_buffers.specs.Lists.{IsInOrder};
 

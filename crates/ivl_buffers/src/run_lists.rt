@@ -3,7 +3,7 @@ ghost use Rattle.std.specs.Prelude.{◌≡◌, ◌↔◌, ◌+◌, ◌^◌, ◌<
 ghost use Rattle.ivl_laws.specs.Sets.{IsBetween};
 ghost use Rattle.ivl_laws.specs.Runs.{IsRunListIn};
 ghost use Rattle.ivl_buffers.specs.Links.{AreLinked, EndsIn, IsLinked, StartsIn};
-ghost use Rattle.ivl_merges.specs.Sinks.{IsRunIn};
+ghost use Rattle.ivl_walks.specs.Sinks.{IsRunIn};
 
 use crate::pair::Pair;
 use intervallum::interval::Interval;

@@ -2,7 +2,7 @@
 ghost use Rattle.std.specs.Prelude.{◌≡◌, ◌↔◌, ◌≤◌, false, IfSome, IsTrue, MatchOption, drop, length, map, option_map, slice_get, take};
 ghost use Rattle.ivl_laws.specs.Sets.{AtLeast, HasNone, IsBetween, IsSubset};
 ghost use Rattle.ivl_laws.specs.Runs.{Covers};
-ghost use Rattle.intervallum.specs.Places.{EndBelow, EndsFrom};
+ghost use Rattle.ivl_places.specs.Places.{EndBelow, EndsFrom};
 ghost use Rattle.ivl_buffers.specs.Lookup.{AnswersNext, IsFirstFrom, IsNextIn, TellsAt};
 ghost use Rattle.ivl_buffers.specs.Lists.{IsInOrder};
 

@@ -4,9 +4,9 @@ use Rattle.std.specs.Prelude.{All, IfOk, OnErr}
 use Rattle.ivl_laws.specs.Sets.{Differences, ExactProducts, IsBetween, IsSubset, HasSome, Only, Products, Sums, Without}
 use Rattle.ivl_laws.specs.Runs.{Covers, IsRunsOf}
 use Rattle.ivl_laws.proofs.Adding.{untrue}
-use Rattle.intervallum.specs.Sweeps.{ExactResultsBy, ResultsBy}
-use Rattle.intervallum.specs.declared.sweep.Op.{Op}
-use Rattle.intervallum.specs.declared.sweep.Op.TheVariants as ops
+use Rattle.ivl_images.specs.Sweeps.{ExactResultsBy, ResultsBy}
+use Rattle.ivl_images.specs.declared.op.Op.{Op}
+use Rattle.ivl_images.specs.declared.op.Op.TheVariants as ops
 use Rattle.ivl_calculator.specs.declared.calc.writes.Merge.{Merge}
 use Rattle.ivl_calculator.specs.declared.calc.writes.Merge.TheVariants as merges
 use Rattle.ivl_calculator.specs.declared.calc.writes.Part.{Part}

@@ -5,8 +5,8 @@
 --     MergedBy merge S T, PartBy part v S      the members of what is made
 use Rattle.std.specs.Prelude.{ℕ, ℤ}
 use Rattle.ivl_laws.specs.Sets.{Union, Intersection, Without, SymmetricDifference, AtLeast, AtMost, Above, Below}
-use Rattle.intervallum.specs.declared.sweep.Op.{Op}
-use Rattle.intervallum.specs.declared.sweep.Op.TheVariants as ops
+use Rattle.ivl_images.specs.declared.op.Op.{Op}
+use Rattle.ivl_images.specs.declared.op.Op.TheVariants as ops
 use Rattle.ivl_calculator.specs.declared.calc.writes.Merge.{Merge}
 use Rattle.ivl_calculator.specs.declared.calc.writes.Merge.TheVariants as merges
 use Rattle.ivl_calculator.specs.declared.calc.writes.Part.{Part}

@@ -5,7 +5,7 @@ use Rattle.std.proofs.lemmas.Int.{ints}
 use Rattle.jiff.specs.Words.{IsEpochDay}
 use Rattle.ivl_laws.specs.Sets.{IsBetween, IsSubset, Without}
 use Rattle.ivl_laws.specs.Runs.{Covers, IsRunsOf}
-use Rattle.intervallum.specs.FirstFit.{FitsAt, IsFirstFit}
+use Rattle.ivl_places.specs.FirstFit.{FitsAt, IsFirstFit}
 use Rattle.ivl_lines.specs.Lines.{with_newline}
 use Rattle.ivl_calendar.specs.Answering.{AnswersBook, AnswersCommand, AnswersFree, AnswersGap, AnswersOf, AnswersWho}
 use Rattle.ivl_calendar.specs.Days.{AreSpansText, IsSpanText}

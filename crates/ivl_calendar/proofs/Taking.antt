@@ -7,7 +7,7 @@ use Rattle.ivl_laws.specs.Bounds.{width_of}
 use Rattle.ivl_laws.proofs.Intervals.{pos-non_negative_part, width_of-filled}
 use Rattle.ivl_laws.specs.Runs.{Covers, IsMaximal, IsRunsOf}
 use Rattle.ivl_laws.specs.Sets.{AtLeast, HasNone, IsBetween, IsSubset, Without}
-use Rattle.intervallum.specs.Neighbours.{IsLeast, IsRunWith}
+use Rattle.ivl_places.specs.Neighbours.{IsLeast, IsRunWith}
 use Rattle.ivl_map.specs.Entries.{intervals_of}
 use Rattle.ivl_calendar.specs.Rooms.{IsRunFrom}
 

@@ -6,7 +6,7 @@
 use Rattle.std.specs.Prelude.{◌≡◌, ◌⊎◌, ℕ, ℤ, true, false, List, Option, None, Some, IsSome, codes}
 use Rattle.ivl_laws.specs.Sets.{IsBetween, Without}
 use Rattle.ivl_laws.specs.Runs.{IsRunsOf}
-use Rattle.intervallum.specs.FirstFit.{FitsAt, IsFirstFit}
+use Rattle.ivl_places.specs.FirstFit.{FitsAt, IsFirstFit}
 use Rattle.ivl_lines.specs.Commands.{AnswersByCommand}
 use Rattle.ivl_lines.specs.Lines.{with_newline}
 use Rattle.ivl_calendar.specs.Days.{IsSpanText, AreSpansText}

@@ -3,7 +3,7 @@ ghost use Rattle.std.specs.Prelude.{◌≡◌, ◌<◌, ◌≤ℤ◌, ◌↔◌,
 ghost use Rattle.jiff.specs.Words.{IsEpochDay};
 ghost use Rattle.ivl_laws.specs.Sets.{AtLeast, HasNone, Intersection, IsBetween, IsSubset, Without};
 ghost use Rattle.ivl_laws.specs.Runs.{Covers, IsRunsOf};
-ghost use Rattle.intervallum.specs.FirstFit.{FitsAt, IsFirstFit};
+ghost use Rattle.ivl_places.specs.FirstFit.{FitsAt, IsFirstFit};
 ghost use Rattle.ivl_map.specs.Entries.{HasAt, HasValue, IsEntryList, intervals_of};
 ghost use Rattle.ivl_map.specs.Lookups.{IsFirstRunOf};
 ghost use Rattle.ivl_calendar.specs.Rooms.{Bookings, IsBookedFor, IsBusy, IsFor, IsFreeInAll, IsRunFrom, named_of, rooms_of};

@@ -9,7 +9,7 @@ ghost use Rattle.ivl_json.specs.Writing.{interval_json, set_json};
 ghost use Rattle.ivl_json.specs.declared.faults.ItemFault.{ItemFault};
 ghost use Rattle.ivl_json.specs.declared.faults.JsonFault.{JsonFault};
 
-use ivl_laws::sets::NumberSet;
+use ivl_set_laws::sets::NumberSet;
 
 /// The JSON of an interval of the range reads as its members.
 pub fn interval_reads_back()

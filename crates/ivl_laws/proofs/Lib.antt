@@ -15,8 +15,4 @@ pub mod Ends
 pub mod Ranges
 pub mod Adding
 pub mod Results
-pub mod ExamplesSets
-pub mod ExamplesArithmetic
-pub mod ExamplesRuns
-pub mod ExamplesCounts
-pub mod ExamplesFamilies
+pub mod Slices

@@ -1,11 +1,3 @@
-//! The laws of interval sets, over sets of integers and lists of runs. Each function here does
-//! nothing: its contract is the law.
+//! Sets of whole numbers, lists of runs, counts and bounds: the words in which contracts are written, and the lemmas on them on
+//! which all other crates stand. There is no code here.
 #![tactic(auto)]
-
-pub mod algebra;
-pub mod arithmetic;
-pub mod hulls;
-pub mod lattice;
-pub mod run_lists;
-pub mod sets;
-pub mod sizes;

@@ -7,7 +7,7 @@ use Rattle.std.proofs.Math.Bool.{true≢false}
 use Rattle.std.specs.Cmp.{IsEquivalence}
 use Rattle.ivl_laws.specs.Sets.{IsBetween}
 use Rattle.ivl_laws.specs.Counts.{IsIn}
-use Rattle.intervallum.specs.Edits.{widened}
+use Rattle.ivl_places.specs.Edits.{widened}
 use Rattle.ivl_map.specs.Entries.{HasAt, IsEntryList, JoinsAbove, JoinsBelow, entry_ended, entry_led}
 use Rattle.ivl_map.proofs.Leaving.{has_in_drop, has_in_take}
 use Rattle.ivl_map.proofs.Lists.{has-append_left, open_at}

@@ -6,7 +6,7 @@ use Rattle.std.specs.Cmp.{IsEquivalence}
 use Rattle.ivl_laws.specs.Sets.{AtLeast, AtMost, HasNone, Intersection, IsBetween}
 use Rattle.ivl_laws.specs.Counts.{IsIn}
 use Rattle.ivl_laws.proofs.Places.{in_at}
-use Rattle.intervallum.specs.Neighbours.{IsGreatest, IsLeast}
+use Rattle.ivl_places.specs.Neighbours.{IsGreatest, IsLeast}
 use Rattle.ivl_map.specs.Entries.{HasAt, HasValue, IsEntryList, AllEndBelow, FirstEndsFrom, IsGap, FirstStartsAbove, AllStartBy}
 use Rattle.ivl_map.specs.Lookups.{IsFirstRunOf, IsLastRunOf, IsStoredAt}
 use Rattle.ivl_map.proofs.Lists.{has-split, has_above, has_at, has_below, open_at, IsEntryList-drop}

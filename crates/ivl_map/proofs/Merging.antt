@@ -4,7 +4,7 @@ use Rattle.std.proofs.lemmas.Int.{ints, by_lt_z}
 use Rattle.std.specs.Cmp.{IsEquivalence}
 use Rattle.ivl_laws.specs.Sets.{Above, HasSome, Intersection, IsBetween, SameMembers}
 use Rattle.ivl_laws.proofs.Lengths.{decide_between}
-use Rattle.intervallum.proofs.Sweeping.{same_item}
+use Rattle.ivl_laws.proofs.Slices.{same_item}
 use Rattle.ivl_map.specs.Entries.{HasAt, HasValue, IsEntriesOf, IsEntryList, IsEntryListIn, AllEndBelow, OnlyAt, Written}
 use Rattle.ivl_map.specs.Lookups.{IsStoredAt}
 use Rattle.ivl_map.specs.Changes.{IsMergeOf, WrittenPair}

@@ -9,7 +9,7 @@ use Rattle.ivl_laws.specs.Counts.{IsCountOf}
 use Rattle.ivl_laws.proofs.Counts.{IsCountOf-apart, IsCountOf-same, count_is_monotone}
 use Rattle.ivl_laws.proofs.Intervals.{IsCountOf-width_of}
 use Rattle.ivl_laws.proofs.SetLaws.{IsRunsOf-same}
-use Rattle.intervallum.specs.FirstFit.{FitsAt, IsFirstFit}
+use Rattle.ivl_places.specs.FirstFit.{FitsAt, IsFirstFit}
 use Rattle.ivl_map.specs.Entries.{HasAt, HasValue, IsEntryList, intervals_of}
 use Rattle.ivl_map.proofs.Windows.{keys_are}
 use Rattle.ivl_map.proofs.Writing.{before_start}

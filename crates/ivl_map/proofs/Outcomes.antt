@@ -5,7 +5,7 @@ use Rattle.std.proofs.lemmas.Int.{by_lt_z}
 use Rattle.ivl_laws.specs.Counts.{IsIn}
 use Rattle.ivl_laws.specs.Sets.{HasNone, IsBetween}
 use Rattle.ivl_laws.proofs.Intervals.{none_is_crossed, some_is_not_crossed}
-use Rattle.intervallum.specs.Edits.{widened}
+use Rattle.ivl_places.specs.Edits.{widened}
 use Rattle.ivl_map.specs.Changes.{NeedsRoom}
 use Rattle.ivl_map.specs.Entries.{HasAt}
 

@@ -4,7 +4,7 @@
 use Rattle.std.specs.Prelude.{ℤ, pos, ◌+ℤ◌, ◌-ℤ◌, Bool, List}
 use Rattle.ivl_laws.specs.Sets.{IsBetween}
 use Rattle.ivl_laws.specs.Counts.{IsIn}
-use Rattle.intervallum.specs.Neighbours.{IsGreatest, IsLeast}
+use Rattle.ivl_places.specs.Neighbours.{IsGreatest, IsLeast}
 
 -- the longest run round a number whose numbers have equal values: the run, and the value
 --     IsRunOfValue eq z F e      e's run has z, F has e's value at all its numbers, and not at the next one on either side

@@ -7,7 +7,7 @@ ghost use Rattle.std.specs.List.Retain.{IsFiltered};
 ghost use Rattle.ivl_laws.specs.Counts.{IsCountOf, IsIn};
 ghost use Rattle.ivl_laws.specs.Runs.{Covers, IsRunsOf};
 ghost use Rattle.ivl_laws.specs.Sets.{AtLeast, AtMost, HasNone, HasSome, Intersection, IsBetween, SameMembers, Without};
-ghost use Rattle.intervallum.specs.FirstFit.{FitsAt, IsFirstFit};
+ghost use Rattle.ivl_places.specs.FirstFit.{FitsAt, IsFirstFit};
 ghost use Rattle.ivl_map.specs.Entries.{HasAt, HasValue, IsEntriesOf, IsEntryListIn, NoValue, NotAt, OnlyAt, Outside, SameValues, Written, WrittenAll, intervals_of};
 ghost use Rattle.ivl_map.specs.Lookups.{IsFirstRunOf, IsLastRunOf, IsStoredAt};
 

@@ -1,3 +1,3 @@
-pub mod Order
-pub mod HeldRun
-pub mod Sinks
+pub use Rattle.ivl_walks.specs.HeldRun
+pub use Rattle.ivl_walks.specs.Order
+pub use Rattle.ivl_walks.specs.Sinks

@@ -10,7 +10,7 @@ ghost use Rattle.std.specs.Option.{option_zip};
 ghost use Rattle.ivl_laws.specs.Sets.{Complement, Intersection, IsBetween, SymmetricDifference, Union, Without};
 ghost use Rattle.ivl_laws.specs.Runs.{AddsRun, Covers, IsMaximal, IsRunListIn, StartsBy};
 ghost use Rattle.ivl_laws.specs.Walks.{TakesFirst};
-ghost use Rattle.ivl_merges.specs.Sinks.{AddsFilled, IsMerged, IsRunIn};
+ghost use Rattle.ivl_walks.specs.Sinks.{AddsFilled, IsMerged, IsRunIn};
 
 use crate::pair::Pair;
 use crate::sink::Sink;

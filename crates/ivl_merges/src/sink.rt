@@ -1,7 +1,7 @@
 //! Where a merge writes its answer: the caller's slice, or a list in reserved room.
 ghost use Rattle.std.specs.Prelude.{◌≡◌, ℕ, ◌+◌, ◌-◌, ◌^◌, ◌<◌, ◌≤◌, ℤ, ◌≤ℤ◌, IsTrue, List, [], ◌∷◌, ◌++◌, length, map, slice_set, take, if◌then◌else◌, vec_capacity, vec_len};
 ghost use Rattle.std.specs.Int.{from_bool};
-ghost use Rattle.ivl_merges.specs.Sinks.{AddsAtEnd, AddsFilled, AddsOver, PutsAt, Stands, laid};
+ghost use Rattle.ivl_walks.specs.Sinks.{AddsAtEnd, AddsFilled, AddsOver, PutsAt, Stands, laid};
 
 use crate::pair::Pair;
 use ivl_interval::width::Width;

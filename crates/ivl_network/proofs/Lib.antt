@@ -1,4 +1,3 @@
-mod ExamplesRules
 pub mod Budgets
 pub mod Costs
 pub mod Families

@@ -5,7 +5,7 @@ use Rattle.std.proofs.lemmas.List.{drop-drop, get_or_default, get_or-append_righ
 use Rattle.std.proofs.lemmas.List.Elements.{All-more}
 use Rattle.ivl_laws.specs.Runs.{Covers}
 use Rattle.ivl_laws.proofs.Merging.{covers-append_left, covers-append_right}
-use Rattle.intervallum.specs.FirstFit.{FitsAt}
+use Rattle.ivl_places.specs.FirstFit.{FitsAt}
 use Rattle.ivl_paged.specs.Longests.{AreAtMost, AreBounded, HasLong, IsGroup, IsNextLong, IsNextLongPart, IsNextPart, NoneLonger, bounds_of, cut, place_count}
 use Rattle.ivl_paged.specs.Pages.{IsLongest}
 use Rattle.ivl_paged.proofs.Fitting.{fewer_fit}

@@ -10,9 +10,9 @@ use Rattle.ivl_laws.proofs.Intervals.{width_of-filled}
 use Rattle.ivl_laws.proofs.Runs.{covered_after, covered_from, lower_end}
 use Rattle.ivl_laws.proofs.SetLaws.{IsRunsOf-same}
 use Rattle.ivl_laws.proofs.Merging.{covers-append, covers-append_left, covers-append_right}
-use Rattle.intervallum.specs.Neighbours.{IsGreatest}
-use Rattle.ivl_merges.specs.Order.{IsBelow}
-use Rattle.ivl_merges.proofs.MergeState.{IsMaximal-append}
+use Rattle.ivl_places.specs.Neighbours.{IsGreatest}
+use Rattle.ivl_walks.specs.Order.{IsBelow}
+use Rattle.ivl_walks.proofs.MergeState.{IsMaximal-append}
 use Rattle.ivl_paged.specs.Operations.{KeptBy}
 use Rattle.ivl_paged.specs.declared.combine.Operation.{Operation}
 use Rattle.ivl_paged.specs.declared.combine.Operation.TheVariants.{Either, Both, FirstAlone, OneAlone}

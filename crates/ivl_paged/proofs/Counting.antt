@@ -10,10 +10,10 @@ use Rattle.ivl_laws.proofs.Counts.{in_without, length-without, without}
 use Rattle.ivl_laws.proofs.Lengths.{decide_between, decide_covers, length-starts, length_by_starts, start_of, starts}
 use Rattle.ivl_laws.proofs.Places.{start_in}
 use Rattle.ivl_laws.proofs.Products.{one_covers}
-use Rattle.intervallum.specs.Edits.{widened}
-use Rattle.intervallum.proofs.FirstFit.{in_one_run}
-use Rattle.intervallum.proofs.IntervalOperands.{length_but_interval}
-use Rattle.intervallum.specs.Neighbours.{IsLeast, IsRunWith}
+use Rattle.ivl_places.specs.Edits.{widened}
+use Rattle.ivl_places.proofs.FirstFit.{in_one_run}
+use Rattle.ivl_places.proofs.IntervalOperands.{length_but_interval}
+use Rattle.ivl_places.specs.Neighbours.{IsLeast, IsRunWith}
 use Rattle.ivl_paged.specs.Pages.{AreHeads, flattened}
 use Rattle.ivl_paged.proofs.Heads.{heads_set}
 use Rattle.ivl_paged.proofs.Paging.{cut_at, flattened-append, flattened_more, set_page}

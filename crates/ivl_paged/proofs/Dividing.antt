@@ -5,7 +5,7 @@ use Rattle.ivl_laws.specs.Families.{set_at}
 use Rattle.ivl_laws.specs.Sets.{AtLeast}
 use Rattle.ivl_laws.specs.Runs.{Covers, IsMaximal, IsRunsOf}
 use Rattle.ivl_laws.proofs.Merging.{covers-append, covers-append_left, covers-append_right}
-use Rattle.ivl_merges.proofs.MergeState.{IsMaximal-append}
+use Rattle.ivl_walks.proofs.MergeState.{IsMaximal-append}
 use Rattle.ivl_paged.specs.Pages.{StartsUpTo, flattened}
 use Rattle.ivl_paged.proofs.Paging.{IsMaximal-dropped, covers_dropped, covers_page, dropped_covers, ends_below, flattened-append, flattened_more, order_of, page_of, pages_ascend}
 

@@ -12,10 +12,10 @@ use Rattle.ivl_laws.proofs.Intervals.{width_of-filled}
 use Rattle.ivl_laws.proofs.Merging.{covers-append_left, covers-append_right}
 use Rattle.ivl_laws.proofs.Places.{IsMaximal-take, open_at}
 use Rattle.ivl_laws.proofs.Products.{one_covers}
-use Rattle.intervallum.specs.Neighbours.{IsRunWith}
-use Rattle.intervallum.specs.FirstFit.{FitsAt, IsFirstFit}
-use Rattle.intervallum.proofs.FirstFit.{IsFitOf, fit_of_members, fit_of_same, in_one_run}
-use Rattle.intervallum.proofs.Ranks.{more_is, none_taken}
+use Rattle.ivl_places.specs.Neighbours.{IsRunWith}
+use Rattle.ivl_places.specs.FirstFit.{FitsAt, IsFirstFit}
+use Rattle.ivl_places.proofs.FirstFit.{IsFitOf, fit_of_members, fit_of_same, in_one_run}
+use Rattle.ivl_places.proofs.Ranks.{more_is, none_taken}
 use Rattle.ivl_paged.specs.Longests.{HasLong, IsNextLong}
 use Rattle.ivl_paged.specs.Pages.{IsLongest, StartsUpTo, flattened}
 use Rattle.ivl_paged.proofs.Paging.{IsMaximal-dropped, covers_dropped, covers_taken, cut_at, ends_below, order_of, parts_apart, taken_covers}

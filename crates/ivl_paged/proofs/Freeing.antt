@@ -7,8 +7,8 @@ use Rattle.ivl_laws.specs.Sets.{Complement, IsBetween, Without}
 use Rattle.ivl_laws.specs.Runs.{Covers, IsMaximal, IsRunListIn, IsRunsOf}
 use Rattle.ivl_laws.proofs.Ranges.{IsRunsOf-one}
 use Rattle.ivl_laws.proofs.SetLaws.{IsRunsOf-same}
-use Rattle.intervallum.specs.Neighbours.{IsLeast}
-use Rattle.ivl_merges.specs.Order.{IsBelow}
+use Rattle.ivl_places.specs.Neighbours.{IsLeast}
+use Rattle.ivl_walks.specs.Order.{IsBelow}
 use Rattle.ivl_paged.specs.Gaps.{AreGaps, IsAfter, IsBefore, IsLeftBefore, IsGapPage}
 use Rattle.ivl_paged.specs.Pages.{flattened}
 use Rattle.ivl_paged.proofs.Combining.{appended}

@@ -6,7 +6,7 @@ use Rattle.std.proofs.lemmas.List.{get_or_default}
 use Rattle.ivl_laws.specs.Families.{set_at}
 use Rattle.ivl_laws.specs.Sets.{IsBetween, SameMembers, Union, Without}
 use Rattle.ivl_laws.specs.Runs.{Covers, IsMaximal}
-use Rattle.intervallum.specs.Neighbours.{IsLeast}
+use Rattle.ivl_places.specs.Neighbours.{IsLeast}
 use Rattle.ivl_paged.specs.Pages.{AreHeads, IsPageSpan, StartsUpTo, flattened}
 use Rattle.ivl_paged.proofs.Reading.{beyond}
 use Rattle.ivl_paged.proofs.Paging.{covers_page, order_of, page_of, pages_ascend}

@@ -10,7 +10,7 @@ use Rattle.ivl_laws.proofs.Lengths.{decide_covers}
 use Rattle.ivl_laws.proofs.Merging.{covers-append, covers-append_left, covers-append_right}
 use Rattle.ivl_laws.proofs.Places.{covers_at}
 use Rattle.ivl_laws.proofs.Runs.{lower_end, runs_are_unique}
-use Rattle.intervallum.specs.Edits.{widened}
+use Rattle.ivl_places.specs.Edits.{widened}
 use Rattle.ivl_paged.specs.InPlace.{AreCut, AreTouching, IsAddedIfApart, IsRemovedIfInside}
 
 -- ---- one element more

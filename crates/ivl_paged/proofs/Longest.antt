@@ -7,9 +7,9 @@ use Rattle.ivl_laws.specs.Sets.{IsBetween, IsCrossed, IsSubset, Only, SameMember
 use Rattle.ivl_laws.specs.Runs.{Covers, IsMaximal, IsRunsOf}
 use Rattle.ivl_laws.proofs.Intervals.{width_of-crossed, width_of-filled}
 use Rattle.ivl_laws.proofs.Merging.{covers-append_left, covers-append_right}
-use Rattle.intervallum.specs.FirstFit.{FitsAt}
-use Rattle.intervallum.specs.Neighbours.{IsRunWith}
-use Rattle.intervallum.proofs.Ranks.{more_is}
+use Rattle.ivl_places.specs.FirstFit.{FitsAt}
+use Rattle.ivl_places.specs.Neighbours.{IsRunWith}
+use Rattle.ivl_places.proofs.Ranks.{more_is}
 use Rattle.ivl_paged.specs.Pages.{IsLongestPart}
 use Rattle.ivl_paged.proofs.Fitting.{grown_by_run, longest_next, longest_of_none}
 

@@ -7,9 +7,9 @@ use Rattle.ivl_laws.specs.Families.{set_at}
 use Rattle.ivl_laws.specs.Runs.{Covers, IsMaximal}
 use Rattle.ivl_laws.proofs.Intervals.{width_of-filled}
 use Rattle.ivl_laws.proofs.Runs.{≤ℤ_antisymm}
-use Rattle.intervallum.specs.FirstFit.{FitsAt, IsFirstFit}
-use Rattle.intervallum.specs.Neighbours.{IsRunWith}
-use Rattle.intervallum.proofs.FirstFit.{IsFitOf}
+use Rattle.ivl_places.specs.FirstFit.{FitsAt, IsFirstFit}
+use Rattle.ivl_places.specs.Neighbours.{IsRunWith}
+use Rattle.ivl_places.proofs.FirstFit.{IsFitOf}
 use Rattle.ivl_paged.specs.Longests.{HasLong, NoneLonger}
 use Rattle.ivl_paged.specs.Pages.{flattened}
 use Rattle.ivl_paged.proofs.Fitting.{fit_of_none}

@@ -16,8 +16,8 @@ use Rattle.ivl_laws.proofs.Places.{in_at}
 use Rattle.ivl_laws.proofs.Products.{both_covered_by_one, one_covers, one_run_is_one_pair, open_in}
 use Rattle.ivl_laws.proofs.Runs.{lower_end}
 use Rattle.ivl_laws.proofs.SetLaws.{one_run_of_member}
-use Rattle.ivl_merges.proofs.MergeState.{IsMaximal-append}
-use Rattle.intervallum.specs.Windows.{OfRunsThatMeet}
+use Rattle.ivl_walks.proofs.MergeState.{IsMaximal-append}
+use Rattle.ivl_places.specs.Windows.{OfRunsThatMeet}
 use Rattle.ivl_paged.specs.Pages.{IsPageSpan, flattened}
 use Rattle.ivl_paged.specs.Parts.{ArePagesMet}
 use Rattle.ivl_paged.proofs.Paging.{IsMaximal-dropped, IsMaximal-first, IsMaximal-second, IsMaximal-taken, covers_dropped, covers_page, covers_taken, cut_at, flattened-append, order_of, page_of, pages_ascend, parts_apart, taken_covers}

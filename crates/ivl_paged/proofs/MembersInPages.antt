@@ -4,10 +4,10 @@ use Rattle.std.specs.Prelude.{Option}
 use Rattle.std.specs.Iterator.{YieldsFirst, YieldsLast}
 use Rattle.ivl_laws.specs.Sets.{HasSome, Intersection, IsBetween, IsCrossed, SameMembers}
 use Rattle.ivl_laws.specs.Runs.{IsRunsOf}
-use Rattle.intervallum.specs.Members.{members_of, numbers_of}
-use Rattle.intervallum.specs.Windows.{OfRunsThatMeet}
-use Rattle.intervallum.proofs.Members.{IsReady, IsReadyBack, back_by_first, ready_by_last}
-use Rattle.intervallum.proofs.MembersWithin.{IsListWithin, of_none, of_one}
+use Rattle.ivl_places.specs.Members.{members_of, numbers_of}
+use Rattle.ivl_places.specs.Windows.{OfRunsThatMeet}
+use Rattle.ivl_places.proofs.Members.{IsReady, IsReadyBack, back_by_first, ready_by_last}
+use Rattle.ivl_places.proofs.MembersWithin.{IsListWithin, of_none, of_one}
 
 -- no run is left between the ends; B' is what a look for one leaves
 pub ready_at_end : (all : List ℤ) (F L E : ℤ × ℤ) (B B' : List (ℤ × ℤ)) → numbers_of F ++ members_of B ++ numbers_of L ≡ all → IsCrossed F → IsCrossed E → B ≡ [] → B' ≡ [] →

@@ -7,11 +7,11 @@ use Rattle.ivl_laws.specs.Sets.{IsBetween}
 use Rattle.ivl_laws.specs.Runs.{Covers, IsMaximal, StartsBy}
 use Rattle.ivl_laws.proofs.Adding.{untrue}
 use Rattle.ivl_laws.proofs.Places.{runs_ascend}
-use Rattle.intervallum.specs.Neighbours.{IsRunWith}
-use Rattle.intervallum.proofs.Neighbours.{run_at_place}
-use Rattle.intervallum.specs.Places.{StartAbove}
-use Rattle.intervallum.proofs.Searching.{above_from, above_on}
-use Rattle.intervallum.proofs.Windows.{above_all, covers_split}
+use Rattle.ivl_places.specs.Neighbours.{IsRunWith}
+use Rattle.ivl_places.proofs.Neighbours.{run_at_place}
+use Rattle.ivl_places.specs.Places.{StartAbove}
+use Rattle.ivl_places.proofs.Searching.{above_from, above_on}
+use Rattle.ivl_places.proofs.Windows.{above_all, covers_split}
 
 -- ---- what one look tells
 

@@ -11,8 +11,8 @@ use Rattle.ivl_laws.proofs.Lengths.{free_below}
 use Rattle.ivl_laws.proofs.Ranges.{IsRunListIn-runs}
 use Rattle.ivl_laws.proofs.Places.{covers_at, in_at, open_at, runs_ascend, start_in}
 use Rattle.ivl_laws.proofs.Merging.{covers-append, covers-append_left, covers-append_right}
-use Rattle.intervallum.specs.Neighbours.{IsLeast}
-use Rattle.ivl_merges.proofs.MergeState.{IsMaximal-append}
+use Rattle.ivl_places.specs.Neighbours.{IsLeast}
+use Rattle.ivl_walks.proofs.MergeState.{IsMaximal-append}
 use Rattle.ivl_paged.specs.Pages.{IsPageSpan, StartsUpTo, flattened}
 
 -- ---- where a number stands

@@ -10,7 +10,7 @@ use Rattle.ivl_laws.specs.Runs.{Covers, IsMaximal, IsRunListIn}
 use Rattle.ivl_laws.proofs.Counts.{IsCountOf-apart, IsCountOf-none, IsCountOf-same, count_is_monotone, count_is_unique}
 use Rattle.ivl_laws.proofs.Intervals.{IsCountOf-width_of}
 use Rattle.ivl_laws.proofs.Runs.{lower_end, upper_end}
-use Rattle.intervallum.specs.Neighbours.{IsGreatest, IsLeast, IsRunWith}
+use Rattle.ivl_places.specs.Neighbours.{IsGreatest, IsLeast, IsRunWith}
 use Rattle.ivl_paged.specs.Pages.{StartsUpTo, flattened}
 use Rattle.ivl_paged.proofs.Paging.{covers_page, covers_taken, ends_below, in_page, order_of, page_of, pages_ascend, taken_covers}
 

@@ -8,9 +8,9 @@ use Rattle.ivl_laws.specs.Sets.{IsBetween, IsSubset, Only, SameMembers, Union, W
 use Rattle.ivl_laws.specs.Runs.{Covers, IsMaximal, IsRunsOf}
 use Rattle.ivl_laws.proofs.Merging.{covers-append, covers-append_left, covers-append_right}
 use Rattle.ivl_laws.proofs.Runs.{runs_are_unique}
-use Rattle.intervallum.specs.Edits.{widened}
-use Rattle.ivl_merges.proofs.MergeState.{IsMaximal-append}
-use Rattle.intervallum.specs.Neighbours.{IsLeast}
+use Rattle.ivl_places.specs.Edits.{widened}
+use Rattle.ivl_walks.proofs.MergeState.{IsMaximal-append}
+use Rattle.ivl_places.specs.Neighbours.{IsLeast}
 use Rattle.ivl_paged.specs.Pages.{IsPageCut, IsPageSpan, flattened}
 use Rattle.ivl_paged.proofs.Longest.{without_same}
 use Rattle.ivl_paged.proofs.Heads.{span_of_least}

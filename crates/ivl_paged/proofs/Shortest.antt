@@ -12,10 +12,10 @@ use Rattle.ivl_laws.proofs.Intervals.{width_of-filled}
 use Rattle.ivl_laws.proofs.Merging.{covers-append, covers-append_left, covers-append_right}
 use Rattle.ivl_laws.proofs.Products.{one_covers}
 use Rattle.ivl_laws.proofs.Runs.{lower_end, pair_same, upper_end, ≤ℤ_antisymm}
-use Rattle.intervallum.specs.FirstFit.{FitsAt, IsFirstFit}
-use Rattle.intervallum.specs.Fits.{IsBestFit}
-use Rattle.intervallum.specs.Neighbours.{IsRunWith}
-use Rattle.intervallum.proofs.Fits.{run_is_listed}
+use Rattle.ivl_places.specs.FirstFit.{FitsAt, IsFirstFit}
+use Rattle.ivl_places.specs.Fits.{IsBestFit}
+use Rattle.ivl_places.specs.Neighbours.{IsRunWith}
+use Rattle.ivl_places.proofs.Fits.{run_is_listed}
 use Rattle.ivl_paged.specs.Longests.{HasLong}
 use Rattle.ivl_paged.specs.Pages.{flattened}
 use Rattle.ivl_paged.specs.Parts.{IsBetterOf, IsShorterOf, IsShortestRun}

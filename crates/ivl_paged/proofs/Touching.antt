@@ -7,9 +7,9 @@ use Rattle.ivl_laws.specs.Sets.{AtLeast, HasSome, Intersection, IsBetween, IsSub
 use Rattle.ivl_laws.specs.Runs.{Covers, IsRunListIn, IsRunsOf}
 use Rattle.ivl_laws.proofs.Lengths.{decide_between}
 use Rattle.ivl_laws.proofs.Merging.{covers-append, covers-append_left, covers-append_right}
-use Rattle.intervallum.specs.Edits.{widened}
-use Rattle.intervallum.specs.Neighbours.{IsLeast, IsRunWith}
-use Rattle.ivl_merges.proofs.MergeState.{IsMaximal-append}
+use Rattle.ivl_places.specs.Edits.{widened}
+use Rattle.ivl_places.specs.Neighbours.{IsLeast, IsRunWith}
+use Rattle.ivl_walks.proofs.MergeState.{IsMaximal-append}
 use Rattle.ivl_paged.specs.Pages.{IsInsertSpan, IsPageCut, IsPageSpan, IsReaching, flattened}
 use Rattle.ivl_paged.proofs.Paging.{flattened-append, inserted, order_of, page_of, pages_ascend}
 use Rattle.ivl_paged.proofs.Removing.{drop_past, first_is, first_there, fits, rest_is, set_is, take_within}

@@ -7,8 +7,8 @@ use Rattle.ivl_laws.specs.Sets.{HasSome, Intersection, IsBetween, IsSubset}
 use Rattle.ivl_laws.specs.Runs.{Covers, IsMaximal}
 use Rattle.ivl_laws.proofs.Merging.{covers-append, covers-append_right}
 use Rattle.ivl_laws.proofs.Runs.{covered_after, covered_from, lower_end}
-use Rattle.intervallum.specs.Places.{EndBelow}
-use Rattle.intervallum.proofs.Windows.{below_all}
+use Rattle.ivl_places.specs.Places.{EndBelow}
+use Rattle.ivl_places.proofs.Windows.{below_all}
 use Rattle.ivl_paged.specs.Walks.{IsReadPast, IsReadTo, put_back}
 use Rattle.ivl_paged.proofs.Paging.{IsMaximal-second}
 

@@ -9,9 +9,9 @@ use Rattle.ivl_laws.proofs.Counts.{in_without, length-without, without}
 use Rattle.ivl_laws.proofs.Lengths.{decide_covers, length-starts, length_by_starts, start_of, starts}
 use Rattle.ivl_laws.proofs.Places.{start_in}
 use Rattle.ivl_laws.proofs.Products.{one_covers}
-use Rattle.intervallum.specs.Edits.{widened}
-use Rattle.intervallum.specs.Neighbours.{IsRunWith}
-use Rattle.intervallum.proofs.FirstFit.{in_one_run}
+use Rattle.ivl_places.specs.Edits.{widened}
+use Rattle.ivl_places.specs.Neighbours.{IsRunWith}
+use Rattle.ivl_places.proofs.FirstFit.{in_one_run}
 
 -- ---- an interval that touches a run adds none
 

@@ -6,7 +6,7 @@
 use Rattle.std.specs.Prelude.{◌≡◌, ◌⊎◌, ℤ, List, [], ◌∷◌, ◌++◌, All}
 use Rattle.ivl_laws.specs.Sets.{HasNone, HasSome, Intersection, IsBetween, IsSubset, Union, Without}
 use Rattle.ivl_laws.specs.Runs.{Covers, IsRunsOf}
-use Rattle.intervallum.specs.Edits.{widened}
+use Rattle.ivl_places.specs.Edits.{widened}
 
 abbrev pub AreTouching : (ℤ → Type 0) → List (ℤ × ℤ) → Type 0
 AreTouching S L = All (λ p. HasSome (Intersection S (IsBetween (widened p)))) L

@@ -13,7 +13,7 @@
 use Rattle.std.specs.Prelude.{◌≡◌, ℕ, zero, suc, ◌+◌, ◌-◌, ◌<◌, ◌≤◌, ℤ, List, [], ◌∷◌, ◌++◌, length, min, replicate, slice_index_or}
 use Rattle.ivl_laws.specs.Families.{set_at}
 use Rattle.ivl_laws.specs.Runs.{Covers}
-use Rattle.intervallum.specs.FirstFit.{FitsAt}
+use Rattle.ivl_places.specs.FirstFit.{FitsAt}
 
 abbrev pub place_count : List ℕ → ℕ
 place_count [] = 0

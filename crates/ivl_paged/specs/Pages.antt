@@ -13,8 +13,8 @@ use Rattle.ivl_laws.specs.Families.{set_at}
 use Rattle.ivl_laws.specs.Bounds.{width_of}
 use Rattle.ivl_laws.specs.Sets.{IsBetween, IsSubset, Union, Without}
 use Rattle.ivl_laws.specs.Runs.{Covers, IsRunsOf}
-use Rattle.intervallum.specs.FirstFit.{FitsAt}
-use Rattle.intervallum.specs.Neighbours.{IsLeast}
+use Rattle.ivl_places.specs.FirstFit.{FitsAt}
+use Rattle.ivl_places.specs.Neighbours.{IsLeast}
 
 abbrev pub flattened : List (List (ℤ × ℤ)) → List (ℤ × ℤ)
 flattened [] = []

@@ -7,9 +7,9 @@ use Rattle.std.specs.Prelude.{◌≡◌, ◌⊎◌, ℕ, ◌+◌, ◌-◌, ◌<�
 use Rattle.ivl_laws.specs.Bounds.{width_of}
 use Rattle.ivl_laws.specs.Families.{set_at}
 use Rattle.ivl_laws.specs.Sets.{IsBetween, IsSubset}
-use Rattle.intervallum.specs.FirstFit.{FitsAt}
-use Rattle.intervallum.specs.Fits.{IsNoBetter}
-use Rattle.intervallum.specs.Neighbours.{IsRunWith}
+use Rattle.ivl_places.specs.FirstFit.{FitsAt}
+use Rattle.ivl_places.specs.Fits.{IsNoBetter}
+use Rattle.ivl_places.specs.Neighbours.{IsRunWith}
 
 -- they stand from place `start` to before place `end`, and only the first and the last have numbers outside p
 pub record ArePagesMet (P : List (List (ℤ × ℤ))) (p : ℤ × ℤ) (Q : List (List (ℤ × ℤ))) : Type 0 where

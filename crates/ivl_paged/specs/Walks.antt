@@ -3,7 +3,7 @@
 --     put_back o L      L, and before it the run in hand, if there is one
 --     IsReadTo v L o R      of L, runs that end below v are passed; then comes the run o, which does not, and R is behind it
 use Rattle.std.specs.Prelude.{◌≡◌, ℤ, ◌≤ℤ◌, List, [], ◌∷◌, ◌++◌, Option, Some, None, MatchOption}
-use Rattle.intervallum.specs.Places.{EndBelow}
+use Rattle.ivl_places.specs.Places.{EndBelow}
 
 pub record IsReadPast (v : ℤ) (L M : List (ℤ × ℤ)) : Type 0 where
   pub passed : List (ℤ × ℤ)

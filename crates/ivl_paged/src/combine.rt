@@ -2,7 +2,7 @@
 ghost use Rattle.std.specs.Prelude.{◌≡◌, ◌++◌, ◌∷◌, ◌<◌, ℤ, pos, List, IfOk, MatchOption, OnOk, length};
 ghost use Rattle.ivl_laws.specs.Sets.{Union};
 ghost use Rattle.ivl_laws.specs.Runs.{Covers, IsMaximal, IsRunListIn, IsRunsOf};
-ghost use Rattle.ivl_merges.specs.Order.{IsBelow};
+ghost use Rattle.ivl_walks.specs.Order.{IsBelow};
 ghost use Rattle.ivl_paged.specs.Operations.{KeptBy};
 ghost use Rattle.ivl_paged.specs.Pages.{flattened};
 

@@ -4,9 +4,9 @@ ghost use Rattle.ivl_laws.specs.Bounds.{width_of};
 ghost use Rattle.ivl_laws.specs.Sets.{HasSome, Intersection, IsBetween, IsSubset, Only, Union, Without};
 ghost use Rattle.ivl_laws.specs.Counts.{IsCountOf};
 ghost use Rattle.ivl_laws.specs.Runs.{Covers, IsMaximal, IsRunsOf};
-ghost use Rattle.intervallum.specs.Edits.{widened};
-ghost use Rattle.intervallum.specs.FirstFit.{FitsAt};
-ghost use Rattle.intervallum.specs.Neighbours.{IsLeast, IsRunWith};
+ghost use Rattle.ivl_places.specs.Edits.{widened};
+ghost use Rattle.ivl_places.specs.FirstFit.{FitsAt};
+ghost use Rattle.ivl_places.specs.Neighbours.{IsLeast, IsRunWith};
 ghost use Rattle.ivl_paged.specs.Pages.{IsLongest, IsLongestPart};
 ghost use Rattle.ivl_paged.specs.Parts.{IsShortestRun};
 

@@ -4,8 +4,8 @@ ghost use Rattle.std.specs.Prelude.{ℕ, MatchOption, ◌≡◌, ◌==◌, ◌�
 ghost use Rattle.ivl_laws.specs.Families.{set_at};
 ghost use Rattle.ivl_laws.specs.Sets.{HasSome, Intersection, IsBetween, IsSubset, Only, Union, Without};
 ghost use Rattle.ivl_laws.specs.Runs.{Covers, IsMaximal, IsRunsOf};
-ghost use Rattle.intervallum.specs.Edits.{widened};
-ghost use Rattle.intervallum.specs.Neighbours.{IsLeast};
+ghost use Rattle.ivl_places.specs.Edits.{widened};
+ghost use Rattle.ivl_places.specs.Neighbours.{IsLeast};
 ghost use Rattle.ivl_paged.specs.Longests.{AreBounded, HasLong, IsNextLong, IsNextLongPart};
 ghost use Rattle.ivl_paged.specs.Pages.{AreHeads, StartsUpTo, flattened};
 ghost use Rattle.ivl_paged.specs.Sizes.{AreSizes, member_total};

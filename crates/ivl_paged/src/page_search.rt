@@ -5,8 +5,8 @@
 //! each 16th place, and then 16 that stand in a row.
 ghost use Rattle.std.specs.Prelude.{◌≡◌, ◌+◌, ◌≤◌, drop, length, take, IfSome, MatchOption, None};
 ghost use Rattle.ivl_laws.specs.Runs.{Covers, IsMaximal, StartsBy};
-ghost use Rattle.intervallum.specs.Neighbours.{IsRunWith};
-ghost use Rattle.intervallum.specs.Places.{StartAbove};
+ghost use Rattle.ivl_places.specs.Neighbours.{IsRunWith};
+ghost use Rattle.ivl_places.specs.Places.{StartAbove};
 
 use intervallum::interval::Interval;
 use intervallum::ops::Contains;

@@ -5,9 +5,9 @@ ghost use Rattle.ivl_laws.specs.Counts.{IsCountOf};
 ghost use Rattle.ivl_laws.specs.Families.{set_at};
 ghost use Rattle.ivl_laws.specs.Sets.{AtLeast, HasNone, HasSome, Intersection, IsBetween, IsSubset, Only, Union, Without};
 ghost use Rattle.ivl_laws.specs.Runs.{Covers, IsMaximal, IsRunListIn, IsRunsOf};
-ghost use Rattle.intervallum.specs.Edits.{widened};
-ghost use Rattle.intervallum.specs.FirstFit.{FitsAt, IsFirstFit};
-ghost use Rattle.intervallum.specs.Neighbours.{IsLeast};
+ghost use Rattle.ivl_places.specs.Edits.{widened};
+ghost use Rattle.ivl_places.specs.FirstFit.{FitsAt, IsFirstFit};
+ghost use Rattle.ivl_places.specs.Neighbours.{IsLeast};
 ghost use Rattle.ivl_paged.specs.Pages.{IsInsertSpan, IsPageCut, IsPageSpan, StartsUpTo, flattened};
 ghost use Rattle.ivl_paged.specs.Parts.{ArePagesMet, IsBetterOf, IsShortestRun};
 

@@ -2,7 +2,7 @@
 ghost use Rattle.std.specs.Prelude.{◌≡◌, ◌↔◌, ◌⊎◌, ◌<◌, pos, ◌+ℤ◌, ◌-ℤ◌, ◌≤ℤ◌, IsTrue, false};
 ghost use Rattle.ivl_laws.specs.Sets.{HasNone, HasSome, Intersection, IsBetween};
 ghost use Rattle.ivl_laws.specs.Runs.{Covers};
-ghost use Rattle.intervallum.specs.Edits.{widened};
+ghost use Rattle.ivl_places.specs.Edits.{widened};
 ghost use Rattle.ivl_paged.specs.Pages.{IsReaching};
 
 use crate::page::Page;

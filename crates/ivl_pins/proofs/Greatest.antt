@@ -6,8 +6,8 @@ use Rattle.std.specs.Iterator.{YieldsLastBy}
 use Rattle.ivl_laws.specs.Sets.{HasNone, SameMembers}
 use Rattle.ivl_laws.specs.Counts.{IsIn}
 use Rattle.ivl_laws.proofs.Counts.{in-append, in-append_right}
-use Rattle.intervallum.specs.Members.{IsAscending}
-use Rattle.intervallum.specs.Neighbours.{IsGreatest}
+use Rattle.ivl_places.specs.Members.{IsAscending}
+use Rattle.ivl_places.specs.Neighbours.{IsGreatest}
 
 below_last : (M : List ℤ) (x z : ℤ) → IsAscending (M ++ x ∷ []) → IsIn M z → z <ℤ x
 below_last [] x z a i = absurd i

@@ -5,8 +5,8 @@ ghost use Rattle.std.specs.Range.{range_inclusive_end, range_inclusive_start};
 ghost use Rattle.ivl_laws.specs.Sets.{Intersection, IsBetween, IsInRange, SameMembers, Union};
 ghost use Rattle.ivl_laws.specs.Runs.{Covers, IsRunsOf};
 ghost use Rattle.ivl_laws.specs.Counts.{IsIn};
-ghost use Rattle.intervallum.specs.Many.{IsInEach, IsInSome};
-ghost use Rattle.intervallum.specs.Members.{IsAscending};
+ghost use Rattle.ivl_places.specs.Many.{IsInEach, IsInSome};
+ghost use Rattle.ivl_places.specs.Members.{IsAscending};
 
 use intervallum::interval::Interval;
 use intervallum::interval_set::{IntervalSet, ToIntervalSet};

@@ -2,8 +2,8 @@
 ghost use Rattle.std.specs.Prelude.{◌≡◌, ◌≤◌, ◌^◌, [], ◌∷◌, ◌++◌, IfOk, IsOk, MatchOption, length, map};
 ghost use Rattle.ivl_laws.specs.Sets.{HasNone};
 ghost use Rattle.ivl_laws.specs.Runs.{Covers};
-ghost use Rattle.intervallum.specs.Members.{members_of};
-ghost use Rattle.intervallum.specs.Neighbours.{IsGreatest, IsLeast};
+ghost use Rattle.ivl_places.specs.Members.{members_of};
+ghost use Rattle.ivl_places.specs.Neighbours.{IsGreatest, IsLeast};
 
 use intervallum::interval_set::{IntervalSet, Members};
 use intervallum::width::Width;

@@ -3,8 +3,8 @@
 ghost use Rattle.std.specs.Prelude.{◌≡◌, ◌↔◌, ◌⊎◌, ◌+◌, ◌<◌, ◌+ℤ◌, ◌-ℤ◌, ◌*ℤ◌, ◌≤ℤ◌, ◌∷◌, [], ℤ, ⊤, All, None, MatchOption, IfOk, IsTrue, length, map, slice_get};
 ghost use Rattle.ivl_laws.specs.Sets.{Differences, ExactProducts, IsBetween, IsHullOf, IsInRange, IsSubset, Only, SameMembers, Sums, SymmetricDifference, Union};
 ghost use Rattle.ivl_laws.specs.Runs.{Covers, IsMaximal, IsRunsOf};
-ghost use Rattle.intervallum.specs.Sweeps.{AreImages};
-ghost use Rattle.intervallum.specs.declared.sweep.Op.TheVariants.{Sum};
+ghost use Rattle.ivl_images.specs.Sweeps.{AreImages};
+ghost use Rattle.ivl_images.specs.declared.op.Op.TheVariants.{Sum};
 
 use intervallum::interval::Interval;
 use intervallum::interval_set::{IntervalSet, ToIntervalSet};

@@ -4,9 +4,9 @@ ghost use Rattle.std.specs.Prelude.{◌≡◌, ◌↔◌, ◌⊎◌, ℤ, All, I
 ghost use Rattle.ivl_laws.specs.Counts.{IsCountOf};
 ghost use Rattle.ivl_laws.specs.Sets.{AtLeast, Below, Complement, HasNone, HasSome, Intersection, IsBetween, Only, SymmetricDifference, Union, Without};
 ghost use Rattle.ivl_laws.specs.Runs.{Covers, IsRunListIn, IsRunsOf};
-ghost use Rattle.intervallum.specs.Fits.{IsBestFit};
-ghost use Rattle.intervallum.specs.FirstFit.{FitsAt, IsFirstFit};
-ghost use Rattle.intervallum.specs.Windows.{OfRunsThatMeet};
+ghost use Rattle.ivl_places.specs.Fits.{IsBestFit};
+ghost use Rattle.ivl_places.specs.FirstFit.{FitsAt, IsFirstFit};
+ghost use Rattle.ivl_places.specs.Windows.{OfRunsThatMeet};
 
 use intervallum::interval::Interval;
 use intervallum::interval_set::IntervalSet;

@@ -8,9 +8,9 @@ use Rattle.ivl_laws.specs.Runs.{Covers, IsMaximal, IsRunListIn, IsRunsOf}
 use Rattle.ivl_laws.proofs.Merging.{covers-append, covers-append_left, covers-append_right}
 use Rattle.ivl_laws.proofs.Runs.{lower_end}
 use Rattle.ivl_laws.proofs.SetLaws.{IsRunsOf-same}
-use Rattle.intervallum.specs.Windows.{OfRunsThatMeet}
-use Rattle.intervallum.proofs.Splicing.{taken_below}
-use Rattle.intervallum.proofs.WholeRuns.{met_have_all}
+use Rattle.ivl_places.specs.Windows.{OfRunsThatMeet}
+use Rattle.ivl_places.proofs.Splicing.{taken_below}
+use Rattle.ivl_places.proofs.WholeRuns.{met_have_all}
 use Rattle.ivl_store.specs.NarrowedSets.{IsLeftOf}
 use Rattle.ivl_store.proofs.Lists.{covers_next}
 use Rattle.ivl_store.proofs.NarrowedSets.{keeps_some_within}

@@ -1,8 +1,3 @@
-mod ExamplesFamilies
-mod ExamplesLaws
-mod ExamplesPosts
-mod ExamplesRounds
-mod ExamplesStore
 pub mod Counting
 pub mod Counts
 pub mod Cutting

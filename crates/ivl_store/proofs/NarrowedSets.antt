@@ -12,8 +12,8 @@ use Rattle.ivl_laws.proofs.Counts.{IsCountOf-same}
 use Rattle.ivl_laws.proofs.Runs.{lower_end}
 use Rattle.ivl_laws.proofs.Products.{sums_of_intervals, differences_of_intervals}
 use Rattle.ivl_laws.proofs.SetLaws.{sums_are_monotone, differences_are_monotone}
-use Rattle.intervallum.specs.declared.sweep.Op.TheVariants.{Sum as Plus}
-use Rattle.intervallum.proofs.Shifting.{is_moved, moved}
+use Rattle.ivl_images.specs.declared.op.Op.TheVariants.{Sum as Plus}
+use Rattle.ivl_images.proofs.Shifting.{is_moved, moved}
 use Rattle.ivl_within.specs.declared.within.Combined.{Combined}
 use Rattle.ivl_within.specs.declared.within.Combined.TheVariants.{Sum, Difference}
 use Rattle.ivl_within.specs.Within.{Clipped, SumsBy, pair_by}

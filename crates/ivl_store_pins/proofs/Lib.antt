@@ -1,0 +1,7 @@
+mod ExamplesFamilies
+mod ExamplesLaws
+mod ExamplesPosts
+mod ExamplesRounds
+mod ExamplesStore
+mod ExamplesRules
+mod ExamplesWithin

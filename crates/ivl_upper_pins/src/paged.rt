@@ -5,11 +5,11 @@ ghost use Rattle.ivl_laws.specs.Bounds.{width_of};
 ghost use Rattle.ivl_laws.specs.Counts.{IsCountOf, IsIn};
 ghost use Rattle.ivl_laws.specs.Sets.{AtLeast, Below, HasNone, HasSome, Intersection, IsBetween, IsSubset, SameMembers, Union, Without};
 ghost use Rattle.ivl_laws.specs.Runs.{Covers, IsRunsOf};
-ghost use Rattle.intervallum.specs.FirstFit.{FitsAt, IsFirstFit};
-ghost use Rattle.intervallum.specs.Fits.{IsBestFit};
-ghost use Rattle.intervallum.specs.Members.{IsAscending};
-ghost use Rattle.intervallum.specs.Neighbours.{IsRunWith};
-ghost use Rattle.intervallum.specs.Windows.{OfRunsThatMeet};
+ghost use Rattle.ivl_places.specs.FirstFit.{FitsAt, IsFirstFit};
+ghost use Rattle.ivl_places.specs.Fits.{IsBestFit};
+ghost use Rattle.ivl_places.specs.Members.{IsAscending};
+ghost use Rattle.ivl_places.specs.Neighbours.{IsRunWith};
+ghost use Rattle.ivl_places.specs.Windows.{OfRunsThatMeet};
 
 use intervallum::interval::Interval;
 use intervallum::interval_set::IntervalSet;

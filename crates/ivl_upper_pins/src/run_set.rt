@@ -3,8 +3,8 @@ ghost use Rattle.std.specs.Prelude.{◌≡◌, ◌↔◌, ◌⊎◌, ◌≤◌, 
 ghost use Rattle.ivl_laws.specs.Counts.{IsCountOf};
 ghost use Rattle.ivl_laws.specs.Sets.{AtLeast, AtMost, Below, HasNone, IsBetween, IsInRange, IsSubset, Only, Union, Without};
 ghost use Rattle.ivl_laws.specs.Runs.{Covers, IsRunsOf};
-ghost use Rattle.intervallum.specs.Neighbours.{IsGreatest, IsLeast};
-ghost use Rattle.intervallum.specs.FirstFit.{FitsAt, IsFirstFit};
+ghost use Rattle.ivl_places.specs.Neighbours.{IsGreatest, IsLeast};
+ghost use Rattle.ivl_places.specs.FirstFit.{FitsAt, IsFirstFit};
 
 use intervallum::interval::Interval;
 use intervallum::interval_set::IntervalSet;

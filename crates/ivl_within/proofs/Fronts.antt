@@ -9,7 +9,7 @@ use Rattle.ivl_laws.specs.Sets.{IsBetween, IsSubset}
 use Rattle.ivl_laws.specs.Runs.{Covers, IsMaximal}
 use Rattle.ivl_laws.proofs.Places.{covers_at, open_at, place_of_covered, runs_ascend}
 use Rattle.ivl_laws.proofs.Products.{differences_of_intervals, sums_of_intervals}
-use Rattle.intervallum.specs.Sweeps.{run_at}
+use Rattle.ivl_images.specs.Sweeps.{run_at}
 use Rattle.ivl_within.specs.Within.{SumsBy, pair_by}
 use Rattle.ivl_within.specs.Fronts.{IsFront, nth_by}
 use Rattle.ivl_within.proofs.Clipping.{part_of_sums}

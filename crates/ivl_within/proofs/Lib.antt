@@ -1,4 +1,3 @@
-mod ExamplesWithin
 pub mod Clipping
 pub mod Fronts
 pub mod Lists

@@ -6,7 +6,7 @@ use Rattle.std.proofs.lemmas.List.{get_or_default}
 use Rattle.ivl_laws.specs.Sets.{HasNone, Intersection, IsBetween, IsSubset, Only, SameMembers, Union}
 use Rattle.ivl_laws.specs.Runs.{Covers, IsMaximal}
 use Rattle.ivl_laws.proofs.Places.{covers_at, open_at, place_of_covered, runs_ascend}
-use Rattle.intervallum.specs.Sweeps.{run_at}
+use Rattle.ivl_images.specs.Sweeps.{run_at}
 use Rattle.ivl_within.specs.Within.{SumsBy, pair_by}
 use Rattle.ivl_within.specs.Fronts.{nth_by}
 use Rattle.ivl_within.specs.Moved.{HasOneRun, image_by, image_count}

@@ -9,7 +9,7 @@ use Rattle.ivl_laws.proofs.Merging.{covers-append, covers-append_left, covers-ap
 use Rattle.ivl_laws.proofs.Places.{IsMaximal-take, covers-take}
 use Rattle.ivl_laws.proofs.Products.{differences_of_runs, run_ends, sums_of_runs}
 use Rattle.ivl_laws.proofs.SetLaws.{IsRunsOf-same}
-use Rattle.intervallum.specs.Windows.{OfRunsThatMeet}
+use Rattle.ivl_places.specs.Windows.{OfRunsThatMeet}
 use Rattle.ivl_within.specs.Within.{Clipped, SumsBy, pair_by, reach_back_by, reach_by}
 use Rattle.ivl_within.proofs.Clipping.{part_of_sums}
 use Rattle.ivl_within.specs.declared.within.Combined.{Combined}

@@ -12,7 +12,7 @@ use Rattle.ivl_laws.proofs.Intervals.{pos-non_negative_part, width_of-filled}
 use Rattle.ivl_laws.proofs.Merging.{covers-append, covers-append_left, covers-append_right}
 use Rattle.ivl_laws.proofs.Places.{covers-drop, covers-take}
 use Rattle.ivl_laws.proofs.SetLaws.{IsRunsOf-same}
-use Rattle.intervallum.proofs.Windows.{covers_split}
+use Rattle.ivl_places.proofs.Windows.{covers_split}
 use Rattle.ivl_within.specs.Within.{Clipped, SumsBy}
 use Rattle.ivl_within.specs.Fronts.{IsFront, IsStretch}
 use Rattle.ivl_within.proofs.Reaching.{alone}

@@ -6,7 +6,7 @@
 --         to `to` are these, or at `next` or above, which is above `from`
 use Rattle.std.specs.Prelude.{◌≡◌, ◌⊎◌, ℕ, ◌-◌, ℤ, ◌≤ℤ◌, ◌<ℤ◌, Bool, false, IsTrue, List, length}
 use Rattle.ivl_laws.specs.Sets.{IsBetween, IsSubset}
-use Rattle.intervallum.specs.Sweeps.{run_at}
+use Rattle.ivl_images.specs.Sweeps.{run_at}
 use Rattle.ivl_within.specs.declared.within.Combined.{Combined}
 use Rattle.ivl_within.specs.declared.within.Combined.TheVariants.{Sum, Difference}
 

@@ -3,7 +3,7 @@
 --     image_count a b      how many results there are
 --     image_by op a b k      the result at place k, where they ascend
 use Rattle.std.specs.Prelude.{◌≡◌, ◌⊎◌, ℕ, ℤ, List, [], ◌∷◌, length}
-use Rattle.intervallum.specs.Sweeps.{run_at}
+use Rattle.ivl_images.specs.Sweeps.{run_at}
 use Rattle.ivl_within.specs.Within.{pair_by}
 use Rattle.ivl_within.specs.Fronts.{nth_by}
 use Rattle.ivl_within.specs.declared.within.Combined.{Combined}

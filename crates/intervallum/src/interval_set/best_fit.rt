@@ -3,8 +3,8 @@ ghost use Rattle.std.specs.Prelude.{◌≡◌, ◌↔◌, ◌<◌, ◌≤◌, �
 ghost use Rattle.ivl_laws.specs.Bounds.{width_of};
 ghost use Rattle.ivl_laws.specs.Sets.{IsBetween, Without};
 ghost use Rattle.ivl_laws.specs.Runs.{Covers, IsRunsOf};
-ghost use Rattle.intervallum.specs.FirstFit.{FitsAt, IsFirstFit};
-ghost use Rattle.intervallum.specs.Fits.{IsBestFit};
+ghost use Rattle.ivl_places.specs.FirstFit.{FitsAt, IsFirstFit};
+ghost use Rattle.ivl_places.specs.Fits.{IsBestFit};
 
 use super::IntervalSet;
 use super::first_fit::lowest_of;

@@ -2,7 +2,7 @@
 ghost use Rattle.std.specs.Prelude.{◌≡◌, ℤ, ◌≤ℤ◌, [], ◌∷◌, IfOk, IfSome, MatchOption};
 ghost use Rattle.ivl_laws.specs.Sets.{HasNone, HasSome, IsBetween, IsHullOf};
 ghost use Rattle.ivl_laws.specs.Runs.{Covers};
-ghost use Rattle.intervallum.specs.Neighbours.{IsGreatest, IsLeast};
+ghost use Rattle.ivl_places.specs.Neighbours.{IsGreatest, IsLeast};
 
 use super::IntervalSet;
 use super::run_lists::hull_of_runs;

@@ -2,7 +2,7 @@
 ghost use Rattle.std.specs.Prelude.{◌≡◌, ◌↔◌, ◌+◌, ◌<◌, ◌≤◌, ℤ, ◌≤ℤ◌, [], None, Some, IfNone, IfOk, IfSome, IsOk, IsTrue, OnErr, OnOk, length};
 ghost use Rattle.ivl_laws.specs.Sets.{HasNone, HasSome, Intersection, IsBetween, IsSubset, Only, Union, Without};
 ghost use Rattle.ivl_laws.specs.Runs.{Covers, IsRunListIn, IsRunsOf};
-ghost use Rattle.intervallum.specs.Edits.{replaced, widened};
+ghost use Rattle.ivl_places.specs.Edits.{replaced, widened};
 
 mod spans;
 mod splices;

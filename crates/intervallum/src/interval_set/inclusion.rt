@@ -2,7 +2,7 @@
 ghost use Rattle.std.specs.Prelude.{◌≡◌, ◌↔◌, ◌≤◌, ◌≤ℤ◌, IsTrue, MatchOption, length, take};
 ghost use Rattle.ivl_laws.specs.Sets.{IsBetween, IsProperSubset, IsSubset};
 ghost use Rattle.ivl_laws.specs.Runs.{Covers};
-ghost use Rattle.intervallum.specs.Places.{EndBelow, CoversFrom};
+ghost use Rattle.ivl_places.specs.Places.{EndBelow, CoversFrom};
 
 use super::IntervalSet;
 use super::lopsided::is_far_shorter;

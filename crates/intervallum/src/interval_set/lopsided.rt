@@ -4,8 +4,8 @@ ghost use Rattle.std.specs.Prelude.{◌≡◌, ◌↔◌, ℕ, ◌+◌, ◌*◌,
 ghost use Rattle.ivl_laws.specs.Counts.{IsCountOf};
 ghost use Rattle.ivl_laws.specs.Sets.{Intersection, IsBetween, SameMembers, Union, Without};
 ghost use Rattle.ivl_laws.specs.Runs.{Covers, IsRunListIn, IsRunsOf, StartsBy};
-ghost use Rattle.intervallum.specs.Places.{EndBelow, EndsFrom};
-ghost use Rattle.ivl_merges.specs.Order.{IsBelow};
+ghost use Rattle.ivl_places.specs.Places.{EndBelow, EndsFrom};
+ghost use Rattle.ivl_walks.specs.Order.{IsBelow};
 
 use super::IntervalSet;
 use super::builder::grown;

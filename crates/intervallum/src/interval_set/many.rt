@@ -2,7 +2,7 @@
 ghost use Rattle.std.specs.Prelude.{IfOk, map};
 ghost use Rattle.ivl_laws.specs.Sets.{Intersection, IsBetween};
 ghost use Rattle.ivl_laws.specs.Runs.{IsRunsOf};
-ghost use Rattle.intervallum.specs.Many.{IsInEach, IsInSome};
+ghost use Rattle.ivl_places.specs.Many.{IsInEach, IsInSome};
 
 use super::IntervalSet;
 use crate::ops::{Intersection, Union};

@@ -6,7 +6,7 @@ ghost use Rattle.ivl_laws.specs.Bounds.{width_of};
 ghost use Rattle.ivl_laws.specs.Sets.{SameMembers};
 ghost use Rattle.ivl_laws.specs.Runs.{Covers, IsRunListIn};
 ghost use Rattle.ivl_laws.specs.Counts.{IsIn};
-ghost use Rattle.intervallum.specs.Members.{IsAscending, members_of, numbers_of};
+ghost use Rattle.ivl_places.specs.Members.{IsAscending, members_of, numbers_of};
 
 use super::IntervalSet;
 use crate::interval::Interval;
@@ -40,7 +40,7 @@ impl<'a, B: Width> Model for Members<'a, B> {
     ghost use Rattle.std.specs.Prelude.{ℤ, ◌≤ℤ◌, ◌≤◌, List, ◌++◌, length};
     ghost use Rattle.std.specs.List.{AllByRecursion};
     ghost use Rattle.ivl_laws.specs.Bounds.{width_of};
-    ghost use Rattle.intervallum.specs.Members.{members_of, numbers_of};
+    ghost use Rattle.ivl_places.specs.Members.{members_of, numbers_of};
 
     ghost Value = { List ℤ };
 

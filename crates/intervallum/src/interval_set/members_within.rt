@@ -2,7 +2,7 @@
 ghost use Rattle.ivl_laws.specs.Sets.{Intersection, IsBetween, SameMembers};
 ghost use Rattle.ivl_laws.specs.Runs.{Covers, IsRunListIn};
 ghost use Rattle.ivl_laws.specs.Counts.{IsIn};
-ghost use Rattle.intervallum.specs.Members.{IsAscending};
+ghost use Rattle.ivl_places.specs.Members.{IsAscending};
 
 use super::IntervalSet;
 use super::members::Members;

@@ -2,7 +2,7 @@
 ghost use Rattle.std.specs.Prelude.{MatchOption};
 ghost use Rattle.ivl_laws.specs.Sets.{AtLeast, AtMost, HasNone};
 ghost use Rattle.ivl_laws.specs.Runs.{Covers};
-ghost use Rattle.intervallum.specs.Neighbours.{IsGreatest, IsLeast, IsRunWith};
+ghost use Rattle.ivl_places.specs.Neighbours.{IsGreatest, IsLeast, IsRunWith};
 
 use super::IntervalSet;
 use crate::interval::Interval;

@@ -3,7 +3,7 @@ ghost use Rattle.std.specs.Prelude.{◌≡◌, All};
 ghost use Rattle.ivl_laws.specs.Sets.{HasSome, Intersection, IsBetween};
 ghost use Rattle.ivl_laws.specs.Runs.{Covers, IsRunListIn, IsRunsOf};
 ghost use Rattle.ivl_laws.specs.Counts.{IsCountOf};
-ghost use Rattle.intervallum.specs.Windows.{OfRunsThatMeet};
+ghost use Rattle.ivl_places.specs.Windows.{OfRunsThatMeet};
 
 use super::IntervalSet;
 use super::builder::grown;

@@ -2,8 +2,8 @@
 ghost use Rattle.std.specs.Prelude.{◌≡◌, ◌+◌, ◌≤◌, pos, ◌≤ℤ◌, IfOk, OnOk, length, take, drop};
 ghost use Rattle.ivl_laws.specs.Sets.{Above, AtLeast, AtMost, Below, Intersection, IsBetween, Union};
 ghost use Rattle.ivl_laws.specs.Runs.{Covers, IsRunListIn, IsRunsOf, StartsBy};
-ghost use Rattle.intervallum.specs.Places.{EndBelow, EndsFrom, StartAbove};
-ghost use Rattle.ivl_merges.specs.Order.{IsBelow};
+ghost use Rattle.ivl_places.specs.Places.{EndBelow, EndsFrom, StartAbove};
+ghost use Rattle.ivl_walks.specs.Order.{IsBelow};
 
 use super::IntervalSet;
 use super::builder::grown;

@@ -2,7 +2,7 @@
 ghost use Rattle.std.specs.Prelude.{◌≡◌, ◌↔◌, ℕ, ◌≤ℤ◌, IsTrue, MatchOption, Some, [], drop, slice_get, take};
 ghost use Rattle.ivl_laws.specs.Sets.{AtLeast, IsBetween, IsSubset, SameMembers};
 ghost use Rattle.ivl_laws.specs.Runs.{Covers, IsRunListIn};
-ghost use Rattle.intervallum.specs.Places.{EndBelow};
+ghost use Rattle.ivl_places.specs.Places.{EndBelow};
 
 use super::walk::Walk;
 use crate::interval::Interval;

@@ -1,7 +1,7 @@
 //! The number of runs below a value, by a search among all or from a place on.
 ghost use Rattle.std.specs.Prelude.{◌≡◌, ℕ, ◌+◌, ◌-◌, ◌*◌, ◌^◌, ◌<◌, ◌≤◌, IsTrue, drop, length, take};
 ghost use Rattle.ivl_laws.specs.Runs.{StartsBy};
-ghost use Rattle.intervallum.specs.Places.{EndBelow, EndsFrom, IsPlaceOf, StartAbove};
+ghost use Rattle.ivl_places.specs.Places.{EndBelow, EndsFrom, IsPlaceOf, StartAbove};
 
 use super::probes::Probes;
 use super::search::{Place, find, find_from};

@@ -1,27 +1,13 @@
 //! Binary search for a value among the runs of a set.
 ghost use Rattle.std.specs.Prelude.{◌≡◌, ℕ, ◌+◌, ◌-◌, ◌*◌, ◌^◌, ◌<◌, ◌≤◌, drop, length, take};
-ghost use Rattle.intervallum.specs.Neighbours.{IsBeside};
-ghost use Rattle.intervallum.specs.Places.{EndBelow, IsPlaceOf, StartAbove, index_of};
+ghost use Rattle.ivl_places.specs.Neighbours.{IsBeside};
+ghost use Rattle.ivl_places.specs.Places.{EndBelow, IsPlaceOf, StartAbove, index_of};
 
 use super::probes::Probes;
 use crate::ops::Bounded;
 use crate::width::Width;
+pub use ivl_places::place::Place;
 use std::hint::select_unpredictable;
-
-/// The place of a value among runs numbered from 0, as `find` returns it.
-///
-/// ```
-/// let a: IntervalSet<i32> = [(1, 2), (5, 6)].to_interval_set(alloc)?;
-/// let mut probes = Probes::new(&a);
-/// assert_eq!(rt; find(&mut probes, 3), Place::Gap(1));
-/// ```
-#[derive(Clone, Copy, PartialEq, Eq, Debug)]
-pub enum Place {
-    /// In the run of this number.
-    In(usize),
-    /// In no run, above this many of them and below the others.
-    Gap(usize),
-}
 
 /// Returns the place of `v`, which may be any value of its type. Binary search: `O(log n)`. Does
 /// not allocate.

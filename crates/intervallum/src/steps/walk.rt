@@ -3,7 +3,7 @@ ghost use Rattle.std.specs.Prelude.{◌≡◌, ◌≢◌, ℕ, ◌+◌, ◌≤�
 ghost use Rattle.std.specs.Int.{from_bool};
 ghost use Rattle.ivl_laws.specs.Sets.{HasSome, IsBetween};
 ghost use Rattle.ivl_laws.specs.Runs.{IsRunListIn};
-ghost use Rattle.ivl_merges.specs.HeldRun.{IsTakenIf};
+ghost use Rattle.ivl_walks.specs.HeldRun.{IsTakenIf};
 
 use crate::interval::Interval;
 use crate::interval_set::IntervalSet;

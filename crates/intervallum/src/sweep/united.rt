@@ -2,7 +2,7 @@
 ghost use Rattle.std.specs.Prelude.{IfOk, IsTrue};
 ghost use Rattle.ivl_laws.specs.Sets.{IsBetween, IsSubset, Union};
 ghost use Rattle.ivl_laws.specs.Runs.{Covers, IsMaximal, IsRunsOf};
-ghost use Rattle.intervallum.specs.Sweeps.{ExactResultsBy, ResultsBy};
+ghost use Rattle.ivl_images.specs.Sweeps.{ExactResultsBy, ResultsBy};
 
 use super::{Op, coalesce, image, results};
 use crate::interval::Interval;

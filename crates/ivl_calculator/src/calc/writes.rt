@@ -1,7 +1,7 @@
 //! The commands that write a register. Each completes the new set before it replaces the old one,
 //! so the register may be an operand too, and is unchanged if the command is refused.
 ghost use Rattle.std.specs.Prelude.{◌≡◌, ◌↔◌, ◌<◌, All, length, slice_set, IsTrue, IfOk, OnErr};
-ghost use Rattle.intervallum.specs.Sweeps.{ExactResultsBy, ResultsBy};
+ghost use Rattle.ivl_images.specs.Sweeps.{ExactResultsBy, ResultsBy};
 ghost use Rattle.ivl_laws.specs.Sets.{IsBetween, IsInRange, IsSubset, Only};
 ghost use Rattle.ivl_laws.specs.Runs.{Covers, IsRunsOf};
 ghost use Rattle.ivl_calculator.specs.Actions.{pairs, complement, plus, minus, times, make, done, cut, refused};

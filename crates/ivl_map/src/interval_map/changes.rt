@@ -1,7 +1,7 @@
 //! Changes that depend on what the map has.
 ghost use Rattle.std.specs.Prelude.{◌≡◌, ℤ, Ok, IfNone, IfOk, IfSome, IsOk, OnErr, OnOk};
 ghost use Rattle.std.specs.Fn.{FnReturnsAt, FnReturnsAtPair};
-ghost use Rattle.intervallum.specs.Edits.{widened};
+ghost use Rattle.ivl_places.specs.Edits.{widened};
 ghost use Rattle.ivl_laws.specs.Sets.{HasNone, HasSome, Intersection, IsBetween};
 ghost use Rattle.ivl_map.specs.Entries.{HasAt, HasValue, IsEntriesOf, Written};
 ghost use Rattle.ivl_map.specs.Changes.{IsMergeOf, IsUpdated};

@@ -3,7 +3,7 @@ ghost use Rattle.std.specs.Prelude.{◌≡◌, ◌↔◌, ◌<◌, ℤ, All, IfO
 ghost use Rattle.ivl_laws.specs.Counts.{IsIn};
 ghost use Rattle.ivl_laws.specs.Sets.{HasSome, Intersection, IsBetween, Without};
 ghost use Rattle.ivl_laws.specs.Runs.{IsRunsOf};
-ghost use Rattle.intervallum.specs.FirstFit.{FitsAt, IsFirstFit};
+ghost use Rattle.ivl_places.specs.FirstFit.{FitsAt, IsFirstFit};
 ghost use Rattle.ivl_map.specs.Entries.{HasAt, HasValue, IsEntryListIn};
 
 use super::IntervalMap;

@@ -1,8 +1,8 @@
 //! The shortest run that has room.
 ghost use Rattle.std.specs.Prelude.{◌<◌, ℤ, MatchOption};
 ghost use Rattle.ivl_laws.specs.Runs.{Covers};
-ghost use Rattle.intervallum.specs.FirstFit.{FitsAt};
-ghost use Rattle.intervallum.specs.Fits.{IsBestFit};
+ghost use Rattle.ivl_places.specs.FirstFit.{FitsAt};
+ghost use Rattle.ivl_places.specs.Fits.{IsBestFit};
 
 use super::PagedSet;
 use crate::pages;

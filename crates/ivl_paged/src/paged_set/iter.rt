@@ -4,7 +4,7 @@ ghost use Rattle.std.specs.Iterator.{YieldsFirst, YieldsLast, item_count};
 ghost use Rattle.ivl_laws.specs.Families.{set_at};
 ghost use Rattle.ivl_laws.specs.Sets.{HasSome, Intersection, IsBetween, IsSubset};
 ghost use Rattle.ivl_laws.specs.Runs.{Covers, IsMaximal, IsRunListIn, IsRunsOf};
-ghost use Rattle.intervallum.specs.Windows.{OfRunsThatMeet};
+ghost use Rattle.ivl_places.specs.Windows.{OfRunsThatMeet};
 ghost use Rattle.ivl_paged.specs.Pages.{flattened};
 
 use super::PagedSet;

@@ -3,7 +3,7 @@ ghost use Rattle.std.specs.Iterator.{YieldsFirstBy, YieldsLastBy, item_count};
 ghost use Rattle.ivl_laws.specs.Sets.{Intersection, IsBetween, SameMembers};
 ghost use Rattle.ivl_laws.specs.Runs.{Covers};
 ghost use Rattle.ivl_laws.specs.Counts.{IsIn};
-ghost use Rattle.intervallum.specs.Members.{IsAscending, numbers_of};
+ghost use Rattle.ivl_places.specs.Members.{IsAscending, numbers_of};
 
 use super::PagedSet;
 use super::iter::Runs;
@@ -39,7 +39,7 @@ pub struct Members<'a, B: Width> {
 impl<'a, B: Width> Model for Members<'a, B> {
     ghost use Rattle.std.specs.Prelude.{ℤ, ◌≤ℤ◌, List, ◌++◌};
     ghost use Rattle.std.specs.List.{AllByRecursion};
-    ghost use Rattle.intervallum.specs.Members.{members_of, numbers_of};
+    ghost use Rattle.ivl_places.specs.Members.{members_of, numbers_of};
 
     ghost Value = { List ℤ };
 

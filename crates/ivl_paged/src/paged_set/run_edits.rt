@@ -6,7 +6,7 @@
 ghost use Rattle.std.specs.Prelude.{◌≡◌, ◌↔◌, ◌++◌, ◌∷◌, [], ◌≤ℤ◌, IsTrue, OnErr, OnOk};
 ghost use Rattle.ivl_laws.specs.Sets.{HasSome, Intersection, IsBetween, IsSubset, Union, Without};
 ghost use Rattle.ivl_laws.specs.Runs.{Covers, IsMaximal, IsRunsOf};
-ghost use Rattle.intervallum.specs.Edits.{widened};
+ghost use Rattle.ivl_places.specs.Edits.{widened};
 ghost use Rattle.ivl_paged.specs.InPlace.{AreCut, AreTouching, IsAddedIfApart, IsRemovedIfInside};
 
 use super::PagedSet;

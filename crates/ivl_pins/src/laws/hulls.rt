@@ -7,8 +7,8 @@ use intervallum::interval::Interval;
 use intervallum::interval_set::IntervalSet;
 use intervallum::ops::{Fits, Hull, Subset};
 use intervallum::width::Width;
-use ivl_laws::arithmetic::arithmetic_of_runs_is_monotone;
-use ivl_laws::lattice::meet_of_intervals;
+use ivl_set_laws::arithmetic::arithmetic_of_runs_is_monotone;
+use ivl_set_laws::lattice::meet_of_intervals;
 use std::alloc::AllocError;
 
 /// The hulls of two intervals in both orders are equal.

@@ -2,7 +2,7 @@
 ghost use Rattle.std.specs.Prelude.{◌↔◌, ℤ, IfOk, IsTrue};
 ghost use Rattle.ivl_laws.specs.Sets.{Above, AtLeast, AtMost, Below, Only, SameMembers};
 ghost use Rattle.ivl_laws.specs.Runs.{Covers, IsRunsOf};
-ghost use Rattle.intervallum.specs.Places.{IsPlaceOf};
+ghost use Rattle.ivl_places.specs.Places.{IsPlaceOf};
 
 use intervallum::interval_set::IntervalSet;
 use intervallum::steps::{Place, Probes, find};

@@ -2,9 +2,9 @@
 ghost use Rattle.std.specs.Prelude.{◌≡◌, ◌⊎◌, ◌+◌, ◌<◌, ◌≤◌, pos, ◌+ℤ◌, ◌-ℤ◌, ◌≤ℤ◌, [], IsSomeAnd, IsTrue, None, Some, drop, length, slice_get, take};
 ghost use Rattle.ivl_laws.specs.Sets.{IsBetween, IsSubset, Union, Without};
 ghost use Rattle.ivl_laws.specs.Runs.{Covers, IsMaximal, IsRunsOf, StartsBy};
-ghost use Rattle.intervallum.specs.Edits.{IsSpan, replaced, widened};
-ghost use Rattle.ivl_merges.specs.HeldRun.{led_by};
-ghost use Rattle.intervallum.specs.Places.{EndBelow, EndsFrom, IsPlaceOf, StartAbove};
+ghost use Rattle.ivl_places.specs.Edits.{IsSpan, replaced, widened};
+ghost use Rattle.ivl_walks.specs.HeldRun.{led_by};
+ghost use Rattle.ivl_places.specs.Places.{EndBelow, EndsFrom, IsPlaceOf, StartAbove};
 
 use crate::interval::Interval;
 use crate::interval_set::IntervalSet;

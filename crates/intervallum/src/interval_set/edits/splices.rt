@@ -1,8 +1,8 @@
 //! Runs put in the place of others, in a vector of runs.
 ghost use Rattle.std.specs.Prelude.{◌≡◌, ◌+◌, ◌<◌, ◌≤◌, [], None, Some, IsOk, OnErr, OnOk, length, sum_by};
 ghost use Rattle.ivl_laws.specs.Bounds.{width_of};
-ghost use Rattle.intervallum.specs.Edits.{replaced};
-ghost use Rattle.ivl_merges.specs.HeldRun.{led_by};
+ghost use Rattle.ivl_places.specs.Edits.{replaced};
+ghost use Rattle.ivl_walks.specs.HeldRun.{led_by};
 
 use crate::interval::Interval;
 use crate::ops::Cardinality;

@@ -1,7 +1,7 @@
 use Rattle.std.proofs.Common.{ap, sym, ◌+◌, ◌∙◌, length, map}
 use Rattle.ivl_laws.specs.Sets.{Complement}
 use Rattle.ivl_laws.specs.Runs.{Covers}
-use Rattle.ivl_merges.specs.Sinks.{laid}
+use Rattle.ivl_walks.specs.Sinks.{laid}
 use Rattle.ivl_buffers.proofs.Output.{merged_at_most, merged_is_laid}
 use Rattle.ivl_buffers.proofs.merging.complement.Goals as goal
 

@@ -2,7 +2,7 @@ use Rattle.std.proofs.Common.{◌≡◌, ◌+◌, ◌-◌, ◌/◌, ◌<◌, ◌
 use Rattle.std.proofs.lemmas.Int.{by_lt_z}
 use Rattle.ivl_laws.proofs.Adding.{untrue}
 use Rattle.ivl_laws.proofs.Orders.{le_number, lt_number}
-use Rattle.intervallum.specs.Places.{EndBelow}
+use Rattle.ivl_places.specs.Places.{EndBelow}
 use Rattle.ivl_buffers.proofs.InOrder.{IsPast, IsSeen, below_to, past_next, place_found, reached}
 use Rattle.ivl_buffers.proofs.sorted_lookup.search.Goals as goal
 

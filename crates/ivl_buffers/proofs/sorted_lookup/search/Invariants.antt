@@ -1,5 +1,5 @@
 use Rattle.std.proofs.Common.{◌+◌, ◌≤◌, length, map, take}
-use Rattle.intervallum.specs.Places.{EndBelow}
+use Rattle.ivl_places.specs.Places.{EndBelow}
 use Rattle.ivl_buffers.specs.Lists.{IsInOrder}
 use Rattle.ivl_buffers.proofs.InOrder.{IsPast, IsSeen}
 use Rattle.ivl_buffers.proofs.sorted_lookup.search.Given as goal

@@ -1,6 +1,6 @@
 use Rattle.std.proofs.Common.{arith, ◌<◌, length, ℤ, subst}
 use Rattle.ivl_laws.specs.Sets.{Intersection, IsBetween, SameMembers}
-use Rattle.intervallum.proofs.Sweeping.{same_item}
+use Rattle.ivl_laws.proofs.Slices.{same_item}
 use Rattle.ivl_map.proofs.merge.heads_in.Goals as goal
 
 pub returns : goal.returns

@@ -7,7 +7,7 @@ use Rattle.ivl_laws.proofs.Orders.{lt_number}
 use Rattle.ivl_map.specs.Entries.{HasAt, IsEntriesOf, OnlyAt}
 use Rattle.ivl_map.proofs.Lists.{IsEntryList-drop, IsEntryList-take}
 use Rattle.ivl_interval.proofs.Pairs.{not_below}
-use Rattle.intervallum.proofs.Slices.{from_place}
+use Rattle.ivl_laws.proofs.Slices.{from_place}
 use Rattle.ivl_map.proofs.Merging.{IsMerging, first_ends_merge, head_above, head_above_too, head_ends, head_filled, head_filled_too, merge_step, merging_begins, rest_above, second_ends_merge}
 use Rattle.ivl_map.proofs.merge.merged.Goals as goal
 use Rattle.ivl_map.proofs.merge.merged.Goals.{then-i-entries+in_ok-push_rest, else-i-entries+in_ok-push_rest-2}

@@ -1,5 +1,5 @@
 use Rattle.std.proofs.Common.{ap, arith, ◌<◌, length, ℤ}
-use Rattle.intervallum.proofs.Sweeping.{same_item}
+use Rattle.ivl_laws.proofs.Slices.{same_item}
 use Rattle.ivl_map.proofs.walks.heads.Goals as goal
 
 pub returns : goal.returns

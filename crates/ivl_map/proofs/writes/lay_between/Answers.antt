@@ -2,7 +2,7 @@ use Rattle.std.proofs.Common.{◌≡◌, true, ⊎_elim, ℕ, suc, ◌+◌, ◌-
 use Rattle.std.proofs.lemmas.Bool.{cases_lt}
 use Rattle.std.specs.Prelude.{OnOk}
 use Rattle.std.specs.declared.alloc.AllocError.{AllocError}
-use Rattle.intervallum.proofs.Sweeping.{same_item}
+use Rattle.ivl_laws.proofs.Slices.{same_item}
 use Rattle.ivl_map.proofs.Laying.{both_cut, kept_length, two_put}
 use Rattle.ivl_map.proofs.Leaving.{two_left}
 use Rattle.ivl_map.proofs.writes.lay_between.Goals as goal

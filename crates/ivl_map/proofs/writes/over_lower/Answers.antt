@@ -1,6 +1,6 @@
 use Rattle.std.proofs.Common.{◌≡◌, ◌<◌, ℤ, pos, ◌-ℤ◌, ◌≤ℤ◌, ◌<ℤ◌, get_or, length, sym, subst, arith}
 use Rattle.std.proofs.lemmas.Int.{ints}
-use Rattle.intervallum.proofs.Sweeping.{same_item}
+use Rattle.ivl_laws.proofs.Slices.{same_item}
 use Rattle.ivl_map.proofs.Lists.{open_at}
 use Rattle.ivl_map.proofs.Parts.{either_part}
 use Rattle.ivl_map.proofs.Searching.{above_at, end_at, starts_later}

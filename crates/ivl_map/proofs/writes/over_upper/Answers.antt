@@ -1,6 +1,6 @@
 use Rattle.std.proofs.Common.{◌≡◌, ℕ, suc, ◌-◌, ◌<◌, ℤ, pos, ◌+ℤ◌, ◌≤ℤ◌, ◌<ℤ◌, take, get_or, length, sym, subst, arith}
 use Rattle.std.proofs.lemmas.Int.{ints}
-use Rattle.intervallum.proofs.Sweeping.{same_item}
+use Rattle.ivl_laws.proofs.Slices.{same_item}
 use Rattle.ivl_map.specs.Entries.{AllEndBelow}
 use Rattle.ivl_map.proofs.Lists.{open_at}
 use Rattle.ivl_map.proofs.Parts.{either_part}

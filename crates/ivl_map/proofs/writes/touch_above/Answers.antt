@@ -2,7 +2,7 @@ use Rattle.std.proofs.Common.{◌≡◌, true, false, ℕ, suc, ◌+◌, ◌<◌
 use Rattle.std.proofs.lemmas.Int.{ints}
 use Rattle.ivl_laws.proofs.Adding.{untrue}
 use Rattle.ivl_laws.proofs.Intervals.{some_is_not_crossed}
-use Rattle.intervallum.proofs.Sweeping.{same_item}
+use Rattle.ivl_laws.proofs.Slices.{same_item}
 use Rattle.ivl_map.specs.Entries.{JoinsAbove}
 use Rattle.ivl_map.proofs.Lists.{open_at}
 use Rattle.ivl_map.proofs.Searching.{start_above_at}

@@ -2,7 +2,7 @@ use Rattle.std.proofs.Common.{◌≡◌, true, false, ◌-◌, ◌<◌, ℤ, pos
 use Rattle.std.proofs.lemmas.Int.{ints}
 use Rattle.ivl_laws.proofs.Adding.{untrue}
 use Rattle.ivl_laws.proofs.Intervals.{some_is_not_crossed}
-use Rattle.intervallum.proofs.Sweeping.{same_item}
+use Rattle.ivl_laws.proofs.Slices.{same_item}
 use Rattle.ivl_map.proofs.Lists.{open_at}
 use Rattle.ivl_map.proofs.Searching.{end_below_at}
 use Rattle.ivl_map.proofs.Writing.{free_at_start, free_below, joined_below, unjoined_below}

@@ -1,5 +1,5 @@
 use Rattle.std.proofs.Common.{◌++◌, map, refl, subst, take_all, arith}
-use Rattle.ivl_merges.proofs.Laying.{added_next, added_none}
+use Rattle.ivl_walks.proofs.Laying.{added_next, added_none}
 use Rattle.ivl_merges.proofs.merges.append.Goals as goal
 
 pub loop-run-init : goal.loop-run-init

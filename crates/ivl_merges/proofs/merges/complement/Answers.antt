@@ -3,9 +3,9 @@ use Rattle.std.proofs.lemmas.Int.{ints}
 use Rattle.ivl_laws.specs.Sets.{Complement}
 use Rattle.ivl_laws.specs.Runs.{Covers, IsRunListIn}
 use Rattle.ivl_laws.proofs.Runs.{pair_same}
-use Rattle.ivl_merges.proofs.ComplementSteps.{IsLeaving, complement_at_most, leaving_after, leaving_all, leaving_before, leaving_begins, leaving_ends, leaving_next, leaving_within}
-use Rattle.ivl_merges.proofs.Laying.{merged}
-use Rattle.ivl_merges.proofs.Suffixes.{first_is_run, none_split, rest_all, rest_at, rest_list, rest_none}
+use Rattle.ivl_walks.proofs.ComplementSteps.{IsLeaving, complement_at_most, leaving_after, leaving_all, leaving_before, leaving_begins, leaving_ends, leaving_next, leaving_within}
+use Rattle.ivl_walks.proofs.Laying.{merged}
+use Rattle.ivl_walks.proofs.Suffixes.{first_is_run, none_split, rest_all, rest_at, rest_list, rest_none}
 use Rattle.ivl_merges.proofs.merges.complement.Goals as goal
 
 pub returns-in_default : goal.returns-in_default

@@ -1,7 +1,7 @@
 use Rattle.std.proofs.Common.{◌≡◌, ◌+◌, ◌≤◌, ℤ, List, drop, length, map}
 use Rattle.ivl_laws.specs.Sets.{Complement}
 use Rattle.ivl_laws.specs.Runs.{Covers, IsRunListIn}
-use Rattle.ivl_merges.proofs.ComplementSteps.{IsLeaving}
+use Rattle.ivl_walks.proofs.ComplementSteps.{IsLeaving}
 use Rattle.ivl_merges.proofs.merges.complement.Given as goal
 
 -- what is written, and what the runs that are not seen yet leave of the numbers above the end, make up the complement

@@ -1,10 +1,10 @@
 use Rattle.std.proofs.Common.{◌+◌, length, refl, arith}
 use Rattle.ivl_laws.proofs.Orders.{lt_number}
 use Rattle.ivl_interval.proofs.Pairs.{not_below}
-use Rattle.ivl_merges.proofs.Intersections.{ends_before, ends_by}
-use Rattle.ivl_merges.proofs.Laying.{adds_filled, merged}
-use Rattle.ivl_merges.proofs.DifferenceSteps.{cut_list, difference_at_most, held_ended, held_is_run, held_list, held_place, left_of, parting_alone, parting_begins, parting_ends, parting_first, parting_second}
-use Rattle.ivl_merges.proofs.Suffixes.{run_at}
+use Rattle.ivl_walks.proofs.Intersections.{ends_before, ends_by}
+use Rattle.ivl_walks.proofs.Laying.{adds_filled, merged}
+use Rattle.ivl_walks.proofs.DifferenceSteps.{cut_list, difference_at_most, held_ended, held_is_run, held_list, held_place, left_of, parting_alone, parting_begins, parting_ends, parting_first, parting_second}
+use Rattle.ivl_walks.proofs.Suffixes.{run_at}
 use Rattle.ivl_merges.proofs.merges.difference.Goals as goal
 
 pub walk-init : goal.walk-init

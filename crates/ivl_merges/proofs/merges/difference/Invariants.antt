@@ -1,6 +1,6 @@
 use Rattle.std.proofs.Common.{◌≡◌, ◌+◌, ◌-◌, ◌<◌, ◌≤◌, [], Some, None, drop, length, map}
 use Rattle.ivl_laws.specs.Runs.{IsRunListIn}
-use Rattle.ivl_merges.proofs.DifferenceSteps.{IsParting, held_from}
+use Rattle.ivl_walks.proofs.DifferenceSteps.{IsParting, held_from}
 use Rattle.ivl_merges.proofs.merges.difference.Given as goal
 
 -- what is written, and what the second list leaves of the first from the held pair on, make up the answer

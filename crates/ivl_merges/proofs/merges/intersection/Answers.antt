@@ -3,11 +3,11 @@ use Rattle.std.proofs.lemmas.Option.{slice_get_within}
 use Rattle.std.specs.Prelude.{slice_get}
 use Rattle.std.specs.Option.{option_zip}
 use Rattle.ivl_laws.proofs.Orders.{le_number, max_number, min_number}
-use Rattle.ivl_merges.proofs.HeldRun.{zip_some}
-use Rattle.ivl_merges.proofs.Unions.{both_ends}
-use Rattle.ivl_merges.proofs.Laying.{merged}
-use Rattle.ivl_merges.proofs.IntersectionSteps.{both_starts, common_of, intersection_at_most, meeting_begins, meeting_ends, meeting_next, both_in_range}
-use Rattle.ivl_merges.proofs.Suffixes.{one_moves, run_at_place}
+use Rattle.ivl_walks.proofs.HeldRun.{zip_some}
+use Rattle.ivl_walks.proofs.Unions.{both_ends}
+use Rattle.ivl_walks.proofs.Laying.{merged}
+use Rattle.ivl_walks.proofs.IntersectionSteps.{both_starts, common_of, intersection_at_most, meeting_begins, meeting_ends, meeting_next, both_in_range}
+use Rattle.ivl_walks.proofs.Suffixes.{one_moves, run_at_place}
 use Rattle.ivl_merges.proofs.merges.intersection.Goals as goal
 
 pub walk-init : goal.walk-init

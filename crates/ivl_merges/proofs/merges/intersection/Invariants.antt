@@ -1,8 +1,8 @@
 use Rattle.std.proofs.Common.{◌≡◌, ◌+◌, ◌-◌, ◌≤◌, ℤ, List, length}
 use Rattle.std.specs.Prelude.{slice_get}
 use Rattle.std.specs.Option.{option_zip}
-use Rattle.ivl_merges.proofs.Laying.{IsLaying}
-use Rattle.ivl_merges.proofs.IntersectionSteps.{common_from, common_of}
+use Rattle.ivl_walks.proofs.Laying.{IsLaying}
+use Rattle.ivl_walks.proofs.IntersectionSteps.{common_from, common_of}
 use Rattle.ivl_merges.proofs.merges.intersection.Given as goal
 
 -- what is written, and what the two lists have in common from the two places on, make up the answer

@@ -1,6 +1,6 @@
 use Rattle.std.proofs.Common.{◌∙◌}
 use Rattle.ivl_laws.proofs.Orders.{max_number}
-use Rattle.ivl_merges.proofs.Joins.{joins_by_width, joins_in_range}
+use Rattle.ivl_walks.proofs.Joins.{joins_by_width, joins_in_range}
 use Rattle.ivl_merges.proofs.merges.joins.Goals as goal
 
 pub returns : goal.returns

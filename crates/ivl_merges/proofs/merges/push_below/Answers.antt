@@ -3,8 +3,8 @@ use Rattle.std.specs.Int.{int_min}
 use Rattle.std.proofs.lemmas.Int.{ints, clamps}
 use Rattle.ivl_laws.proofs.Orders.{le_number, min_number, not_le_number}
 use Rattle.ivl_laws.proofs.Runs.{pair_same}
-use Rattle.ivl_merges.proofs.Laying.{adds_filled, adds_no_run}
-use Rattle.ivl_merges.proofs.IntersectionSteps.{both_starts}
+use Rattle.ivl_walks.proofs.Laying.{adds_filled, adds_no_run}
+use Rattle.ivl_walks.proofs.IntersectionSteps.{both_starts}
 use Rattle.ivl_merges.proofs.merges.push_below.Goals as goal
 
 less : {x y a b : ℤ} → x ≡ a -ℤ b → a ≡ y → b ≡ pos 1 → x ≡ y -ℤ pos 1

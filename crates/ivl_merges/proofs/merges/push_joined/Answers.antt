@@ -2,8 +2,8 @@ use Rattle.std.proofs.Common.{◌≡◌, ◌∙◌, ◌-◌, ◌∷◌, ◌++◌
 use Rattle.std.specs.Int.{from_bool, int_max}
 use Rattle.std.specs.Prelude.{cond}
 use Rattle.ivl_laws.proofs.Orders.{max_number, number_of_cond}
-use Rattle.ivl_merges.proofs.Unions.{adds_by_test, both_ends, last_is_written, same_conds}
-use Rattle.ivl_merges.proofs.UnionSteps.{joined_is_run}
+use Rattle.ivl_walks.proofs.Unions.{adds_by_test, both_ends, last_is_written, same_conds}
+use Rattle.ivl_walks.proofs.UnionSteps.{joined_is_run}
 use Rattle.ivl_merges.proofs.merges.push_joined.Goals as goal
 
 pub returns-clause-adds : goal.returns-clause-adds

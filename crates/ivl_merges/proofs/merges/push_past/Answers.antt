@@ -2,7 +2,7 @@ use Rattle.std.proofs.Common.{◌≡◌, ◌∙◌, ap, ℤ, ◌+ℤ◌, ◌≤�
 use Rattle.std.proofs.lemmas.Int.{ints}
 use Rattle.ivl_laws.proofs.Orders.{le_number, not_le_number}
 use Rattle.ivl_laws.proofs.Runs.{pair_same}
-use Rattle.ivl_merges.proofs.Laying.{adds_filled, adds_no_run}
+use Rattle.ivl_walks.proofs.Laying.{adds_filled, adds_no_run}
 use Rattle.ivl_merges.proofs.merges.push_past.Goals as goal
 
 crossed : (x a c : ℤ) → x ≡ c → x ≤ℤ a → ¬ ((a +ℤ pos 1) ≤ℤ c)

@@ -2,7 +2,7 @@ use Rattle.std.proofs.Common.{◌≡◌, ◌∙◌, ℤ, ◌-ℤ◌, ◌≤ℤ�
 use Rattle.std.proofs.lemmas.Int.{ints}
 use Rattle.ivl_laws.proofs.Orders.{le_number, not_le_number}
 use Rattle.ivl_laws.proofs.Runs.{pair_same}
-use Rattle.ivl_merges.proofs.Laying.{adds_filled, adds_no_run}
+use Rattle.ivl_walks.proofs.Laying.{adds_filled, adds_no_run}
 use Rattle.ivl_merges.proofs.merges.push_under.Goals as goal
 
 less : {x a b y : ℤ} → x ≡ a -ℤ b → a ≡ y → b ≡ pos 1 → x ≡ y -ℤ pos 1

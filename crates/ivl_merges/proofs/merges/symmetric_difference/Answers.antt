@@ -5,13 +5,13 @@ use Rattle.std.specs.Int.{from_bool, int_max, int_min}
 use Rattle.std.specs.Prelude.{cond}
 use Rattle.ivl_laws.specs.Sets.{SymmetricDifference}
 use Rattle.ivl_laws.specs.Runs.{Covers}
-use Rattle.ivl_merges.specs.Sinks.{PutsAt}
+use Rattle.ivl_walks.specs.Sinks.{PutsAt}
 use Rattle.ivl_laws.proofs.Orders.{eq_number, le_number, max_number, min_number, number_of_cond}
-use Rattle.ivl_merges.proofs.AloneSteps.{are_heads, differ, from_fits, next_fits, one_at_most, rest_fits, rest_in_range, run_fits, some_moves, sum_same}
-use Rattle.ivl_merges.proofs.Laying.{merged}
-use Rattle.ivl_merges.proofs.Unions.{both_ends, same_conds}
-use Rattle.ivl_merges.proofs.OneAlone.{one_alone_at_most, one_alone_begins, one_alone_ends, one_alone_next, one_alone_rest, opens, some_are_laid}
-use Rattle.ivl_merges.proofs.Suffixes.{map_ended, map_rest, none_split, opened_map}
+use Rattle.ivl_walks.proofs.AloneSteps.{are_heads, differ, from_fits, next_fits, one_at_most, rest_fits, rest_in_range, run_fits, some_moves, sum_same}
+use Rattle.ivl_walks.proofs.Laying.{merged}
+use Rattle.ivl_walks.proofs.Unions.{both_ends, same_conds}
+use Rattle.ivl_walks.proofs.OneAlone.{one_alone_at_most, one_alone_begins, one_alone_ends, one_alone_next, one_alone_rest, opens, some_are_laid}
+use Rattle.ivl_walks.proofs.Suffixes.{map_ended, map_rest, none_split, opened_map}
 use Rattle.ivl_merges.proofs.merges.symmetric_difference.Goals as goal
 
 pub walk-init : goal.walk-init

@@ -1,7 +1,7 @@
 use Rattle.std.proofs.Common.{◌-◌, ◌+◌, ◌≡◌, ◌≤◌, ℤ, ◌≤ℤ◌, List, drop, length, map}
 use Rattle.ivl_laws.specs.Sets.{SymmetricDifference}
 use Rattle.ivl_laws.specs.Runs.{Covers}
-use Rattle.ivl_merges.proofs.OneAlone.{IsOneAlone}
+use Rattle.ivl_walks.proofs.OneAlone.{IsOneAlone}
 use Rattle.ivl_merges.proofs.merges.symmetric_difference.Given as goal
 
 -- what is written, and what exactly one of the two lists has from `from` on, make up the answer

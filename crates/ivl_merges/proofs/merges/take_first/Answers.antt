@@ -1,8 +1,8 @@
 use Rattle.std.proofs.Common.{◌∙◌, ◌+◌, sym, subst, arith}
 use Rattle.std.proofs.lemmas.Option.{slice_get_within}
 use Rattle.ivl_laws.proofs.Orders.{le_number}
-use Rattle.ivl_merges.proofs.Suffixes.{none_from, one_moves}
-use Rattle.ivl_merges.proofs.UnionSteps.{TakesTo, takes_left_alone, takes_next, takes_right_alone}
+use Rattle.ivl_walks.proofs.Suffixes.{none_from, one_moves}
+use Rattle.ivl_walks.proofs.UnionSteps.{TakesTo, takes_left_alone, takes_next, takes_right_alone}
 use Rattle.ivl_merges.proofs.merges.take_first.Goals as goal
 
 pub returns-in-Some-Some-clause-taken : goal.returns-in-Some-Some-clause-taken

@@ -1,6 +1,6 @@
 use Rattle.std.proofs.Common.{◌+◌, length, arith}
-use Rattle.ivl_merges.proofs.Laying.{merged}
-use Rattle.ivl_merges.proofs.UnionSteps.{next_is_run, union_at_most, union_of, united_ends, united_first, united_next, united_none}
+use Rattle.ivl_walks.proofs.Laying.{merged}
+use Rattle.ivl_walks.proofs.UnionSteps.{next_is_run, union_at_most, union_of, united_ends, united_first, united_next, united_none}
 use Rattle.ivl_merges.proofs.merges.union.Goals as goal
 
 pub returns-in_default : goal.returns-in_default

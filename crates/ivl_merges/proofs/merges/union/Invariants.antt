@@ -1,6 +1,6 @@
 use Rattle.std.proofs.Common.{◌≡◌, ◌+◌, ◌-◌, ◌<◌, ◌≤◌, ℤ, List, drop, length, map}
-use Rattle.ivl_merges.specs.Sinks.{IsRunIn}
-use Rattle.ivl_merges.proofs.UnionSteps.{IsUnited, union_of}
+use Rattle.ivl_walks.specs.Sinks.{IsRunIn}
+use Rattle.ivl_walks.proofs.UnionSteps.{IsUnited, union_of}
 use Rattle.ivl_merges.proofs.merges.union.Given as goal
 
 -- what is written and the runs from the two places on make up the answer

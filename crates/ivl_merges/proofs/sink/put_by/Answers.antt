@@ -1,4 +1,4 @@
-use Rattle.ivl_merges.proofs.Places.{put_by_test}
+use Rattle.ivl_walks.proofs.Places.{put_by_test}
 use Rattle.ivl_merges.proofs.sink.put_by.Goals as goal
 
 pub returns-then-place-out : goal.returns-then-place-out

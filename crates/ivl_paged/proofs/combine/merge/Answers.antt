@@ -1,6 +1,6 @@
 use Rattle.std.proofs.Common.{◌∙◌, refl}
 use Rattle.ivl_laws.specs.Sets.{Intersection, SymmetricDifference, Union, Without}
-use Rattle.intervallum.proofs.Merged.{list_of_pairs, merged_runs, no_pairs}
+use Rattle.ivl_places.proofs.Merged.{list_of_pairs, merged_runs, no_pairs}
 use Rattle.ivl_paged.proofs.combine.merge.Goals as goal
 
 pub union-requires-clause-first : goal.union-requires-clause-first

@@ -2,7 +2,7 @@ use Rattle.std.proofs.Common.{◌-◌, List, ℤ, drop, length, refl, subst, sym
 use Rattle.std.proofs.lemmas.Result.{on_ok_weaker}
 use Rattle.ivl_laws.specs.Sets.{Union}
 use Rattle.ivl_laws.specs.Runs.{Covers, IsRunsOf}
-use Rattle.ivl_merges.proofs.MergeState.{IsMaximal-append}
+use Rattle.ivl_walks.proofs.MergeState.{IsMaximal-append}
 use Rattle.ivl_paged.specs.Pages.{flattened}
 use Rattle.ivl_paged.proofs.Combining.{appended, first_and_rest, rest_is_apart, rest_left}
 use Rattle.ivl_paged.proofs.combine.put.Goals as goal

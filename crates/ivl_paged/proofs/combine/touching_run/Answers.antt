@@ -4,7 +4,7 @@ use Rattle.std.proofs.lemmas.Int.{ints}
 use Rattle.std.proofs.lemmas.List.{get_or_default}
 use Rattle.ivl_laws.specs.Runs.{Covers}
 use Rattle.ivl_laws.proofs.Orders.{lt_number}
-use Rattle.intervallum.specs.Neighbours.{IsGreatest}
+use Rattle.ivl_places.specs.Neighbours.{IsGreatest}
 use Rattle.ivl_paged.proofs.Combining.{apart_from_last}
 use Rattle.ivl_paged.proofs.Paging.{covers_page}
 use Rattle.ivl_paged.proofs.combine.touching_run.Goals as goal

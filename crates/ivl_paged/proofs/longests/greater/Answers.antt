@@ -1,5 +1,5 @@
 use Rattle.std.proofs.Common.{inl, inr, refl, arith}
-use Rattle.intervallum.proofs.FirstFit.{at_least_by_count, below_by_count}
+use Rattle.ivl_places.proofs.FirstFit.{at_least_by_count, below_by_count}
 use Rattle.ivl_paged.proofs.longests.greater.Goals as goal
 
 pub returns-then-ge : goal.returns-then-ge

@@ -1,5 +1,5 @@
 use Rattle.std.proofs.Common.{arith}
-use Rattle.intervallum.proofs.FirstFit.{at_least_by_count, below_by_count}
+use Rattle.ivl_places.proofs.FirstFit.{at_least_by_count, below_by_count}
 use Rattle.ivl_paged.proofs.Longest.{next_part, no_part, part_of_all, size_of_next}
 use Rattle.ivl_paged.proofs.page.longest_of.Goals as goal
 

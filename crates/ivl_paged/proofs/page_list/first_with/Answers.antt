@@ -1,5 +1,5 @@
 use Rattle.std.proofs.Common.{arith}
-use Rattle.intervallum.proofs.FirstFit.{at_least_by_count, below_by_count}
+use Rattle.ivl_places.proofs.FirstFit.{at_least_by_count, below_by_count}
 use Rattle.ivl_paged.proofs.Bounding.{is_long, none_long_next}
 use Rattle.ivl_paged.proofs.page_list.first_with.Goals as goal
 

@@ -1,6 +1,6 @@
 use Rattle.std.proofs.Common.{◌≡◌, ℕ, ℤ, List, drop, subst, arith}
 use Rattle.ivl_laws.proofs.Adding.{untrue}
-use Rattle.intervallum.specs.Places.{StartAbove}
+use Rattle.ivl_places.specs.Places.{StartAbove}
 use Rattle.ivl_paged.proofs.PageSearch.{not_covered, not_covered_above, run_is_with}
 use Rattle.ivl_paged.proofs.page_search.run_before.Goals as goal
 

@@ -1,6 +1,6 @@
 use Rattle.std.proofs.Common.{◌+◌, ◌-◌, ◌≡◌, ℕ, ℤ, List, drop, subst, arith}
 use Rattle.ivl_laws.proofs.Places.{IsMaximal-drop, IsMaximal-take}
-use Rattle.intervallum.specs.Places.{StartAbove}
+use Rattle.ivl_places.specs.Places.{StartAbove}
 use Rattle.ivl_paged.proofs.PageSearch.{above_from_part, at_most_in_part, starts_from_part}
 use Rattle.ivl_paged.proofs.page_search.starts_up_to.Goals as goal
 

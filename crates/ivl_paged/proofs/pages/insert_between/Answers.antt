@@ -4,7 +4,7 @@ use Rattle.std.proofs.lemmas.Result.{on_ok_weaker}
 use Rattle.ivl_laws.proofs.Adding.{untrue}
 use Rattle.ivl_laws.specs.Sets.{HasSome, Intersection, IsBetween, Union}
 use Rattle.ivl_laws.specs.Runs.{Covers, IsRunsOf}
-use Rattle.intervallum.specs.Edits.{widened}
+use Rattle.ivl_places.specs.Edits.{widened}
 use Rattle.ivl_paged.specs.Pages.{flattened}
 use Rattle.ivl_paged.proofs.Paging.{inserted_in_one}
 use Rattle.ivl_paged.proofs.Touching.{next_span, next_touched, not_in_untouched, touched_there}

@@ -2,7 +2,7 @@ use Rattle.std.proofs.Common.{◌≡◌, ◌∙◌, ⊎_elim, inl, inr, [], arit
 use Rattle.std.proofs.lemmas.List.{get_or_default}
 use Rattle.ivl_laws.specs.Sets.{HasSome, Intersection, IsBetween}
 use Rattle.ivl_laws.specs.Runs.{Covers}
-use Rattle.intervallum.specs.Edits.{widened}
+use Rattle.ivl_places.specs.Edits.{widened}
 use Rattle.ivl_paged.proofs.pages.insert_into_one.Goals as goal
 
 pub returns-then-is_more_uncounted-clause-in_place : goal.returns-then-is_more_uncounted-clause-in_place

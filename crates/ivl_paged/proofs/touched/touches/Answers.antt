@@ -2,7 +2,7 @@ use Rattle.std.proofs.Common.{◌≤ℤ◌, List, ℤ, subst}
 use Rattle.ivl_laws.proofs.Orders.{le_number}
 use Rattle.ivl_laws.specs.Runs.{Covers}
 use Rattle.ivl_laws.specs.Sets.{AtLeast}
-use Rattle.intervallum.specs.Neighbours.{IsLeast}
+use Rattle.ivl_places.specs.Neighbours.{IsLeast}
 use Rattle.ivl_paged.proofs.Touching.{touched_by_next}
 use Rattle.ivl_paged.proofs.touched.touches.Goals as goal
 

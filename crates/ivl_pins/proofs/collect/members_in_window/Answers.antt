@@ -4,7 +4,7 @@ use Rattle.std.proofs.lemmas.Result.{IfOk-weaker}
 use Rattle.ivl_laws.specs.Sets.{Intersection, IsBetween, SameMembers}
 use Rattle.ivl_laws.specs.Runs.{Covers}
 use Rattle.ivl_laws.specs.Counts.{IsIn}
-use Rattle.intervallum.specs.Members.{IsAscending}
+use Rattle.ivl_places.specs.Members.{IsAscending}
 use Rattle.ivl_pins.proofs.collect.members_in_window.Goals as goal
 
 pub returns-clause-members : goal.returns-clause-members

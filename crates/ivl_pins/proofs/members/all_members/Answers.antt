@@ -1,6 +1,6 @@
 use Rattle.std.proofs.Common.{ℤ, List}
 use Rattle.std.proofs.lemmas.Iterator.Consumers.{YieldsList-from_first, map_from_collect}
-use Rattle.intervallum.specs.Members.{members_of}
+use Rattle.ivl_places.specs.Members.{members_of}
 use Rattle.ivl_pins.proofs.members.all_members.Goals as goal
 
 pub returns : goal.returns

@@ -1,6 +1,6 @@
 use Rattle.std.proofs.Common.{◌/◌, length}
 use Rattle.std.proofs.lemmas.Result.{IfOk-weaker}
-use Rattle.intervallum.proofs.Many.{common_of_parts, common_of_three}
+use Rattle.ivl_places.proofs.Many.{common_of_parts, common_of_three}
 use Rattle.intervallum.proofs.interval_set.IntervalSet.+intersection_of.Goals as goal
 
 pub returns-in_ok-upper-in_default : goal.returns-in_ok-upper-in_default

@@ -1,6 +1,6 @@
 use Rattle.std.proofs.Common.{◌/◌, length}
 use Rattle.std.proofs.lemmas.Result.{IfOk-weaker}
-use Rattle.intervallum.proofs.Many.{union_of_parts}
+use Rattle.ivl_places.proofs.Many.{union_of_parts}
 use Rattle.intervallum.proofs.interval_set.IntervalSet.+union_of.Goals as goal
 
 pub returns-in_ok-upper-in_default : goal.returns-in_ok-upper-in_default

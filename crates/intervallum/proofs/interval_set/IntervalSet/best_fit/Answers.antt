@@ -2,9 +2,9 @@ use Rattle.std.proofs.Common.{ℤ, List, sym, subst, arith}
 use Rattle.ivl_laws.specs.Runs.{Covers, IsMaximal}
 use Rattle.ivl_laws.proofs.Adding.{untrue}
 use Rattle.ivl_laws.proofs.Places.{IsMaximal-take}
-use Rattle.intervallum.specs.Fits.{IsBestFit}
-use Rattle.intervallum.specs.FirstFit.{FitsAt}
-use Rattle.intervallum.proofs.Fits.{IsBestOf, IsBetterRun, best_is_fit, best_of_all, best_of_more, best_of_none, better_left, better_taken, none_is_no_fit}
+use Rattle.ivl_places.specs.Fits.{IsBestFit}
+use Rattle.ivl_places.specs.FirstFit.{FitsAt}
+use Rattle.ivl_places.proofs.Fits.{IsBestOf, IsBetterRun, best_is_fit, best_of_all, best_of_more, best_of_none, better_left, better_taken, none_is_no_fit}
 use Rattle.intervallum.proofs.interval_set.IntervalSet.best_fit.Goals.{then-fits_better, else-fits_better}
 use Rattle.intervallum.proofs.interval_set.IntervalSet.best_fit.Goals as goal
 

@@ -1,5 +1,5 @@
 use Rattle.std.proofs.Common.{take}
-use Rattle.intervallum.proofs.Fits.{IsBestOf}
+use Rattle.ivl_places.proofs.Fits.{IsBestOf}
 use Rattle.intervallum.proofs.interval_set.IntervalSet.best_fit.Given as goal
 
 -- the best of the runs so far

@@ -1,6 +1,6 @@
 use Rattle.ivl_laws.specs.Runs.{Covers}
 use Rattle.ivl_laws.proofs.Lengths.{decide_covers}
-use Rattle.intervallum.proofs.SetSizes.{common_at_most, without_count}
+use Rattle.ivl_places.proofs.SetSizes.{common_at_most, without_count}
 use Rattle.intervallum.proofs.interval_set.IntervalSet.difference_size.Goals as goal
 
 pub unwrap-requires : goal.unwrap-requires

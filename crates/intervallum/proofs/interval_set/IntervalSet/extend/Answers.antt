@@ -4,7 +4,7 @@ use Rattle.std.specs.Iterator.{Drains}
 use Rattle.ivl_laws.specs.Sets.{IsBetween, Union}
 use Rattle.ivl_laws.specs.Runs.{Covers, IsRunsOf}
 use Rattle.ivl_laws.proofs.SetLaws.{IsRunsOf-same}
-use Rattle.intervallum.proofs.Sweeping.{united_with_items}
+use Rattle.ivl_images.proofs.Sweeping.{united_with_items}
 use Rattle.intervallum.proofs.interval_set.IntervalSet.extend.Goals as goal
 
 -- the items of an iterator that is at its end, and of one that gave x first

@@ -2,11 +2,11 @@ use Rattle.std.proofs.Common.{◌∙◌, ◌-◌, ◌<◌, ℤ, List, length, su
 use Rattle.std.specs.Prelude.{IsSomeAnd, slice_get}
 use Rattle.ivl_laws.specs.Sets.{AtLeast, IsBetween}
 use Rattle.ivl_laws.specs.Runs.{Covers, IsRunListIn}
-use Rattle.intervallum.specs.Neighbours.{IsGapAt}
-use Rattle.intervallum.proofs.FirstFit.{IsFitOf, fit_from_gap}
-use Rattle.intervallum.proofs.Slices.{from_place}
-use Rattle.intervallum.proofs.Finding.{place_is_less}
-use Rattle.intervallum.proofs.Windows.{part_is_run_list}
+use Rattle.ivl_places.specs.Neighbours.{IsGapAt}
+use Rattle.ivl_places.proofs.FirstFit.{IsFitOf, fit_from_gap}
+use Rattle.ivl_laws.proofs.Slices.{from_place}
+use Rattle.ivl_places.proofs.Finding.{place_is_less}
+use Rattle.ivl_places.proofs.Windows.{part_is_run_list}
 use Rattle.intervallum.proofs.interval_set.IntervalSet.first_fit_from.Goals as goal
 
 pub fit_in-requires-clause-runs : goal.fit_in-requires-clause-runs

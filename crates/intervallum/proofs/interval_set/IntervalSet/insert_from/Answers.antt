@@ -6,9 +6,9 @@ use Rattle.ivl_laws.proofs.Adding.{untrue}
 use Rattle.ivl_laws.proofs.Intervals.{not_crossed}
 use Rattle.ivl_laws.proofs.Ranges.{IsRunListIn-runs}
 use Rattle.ivl_laws.proofs.Runs.{lower_end}
-use Rattle.intervallum.specs.Edits.{replaced, widened}
-use Rattle.intervallum.proofs.Allocating.{some_in_span}
-use Rattle.intervallum.proofs.Sweeping.{adds_nothing}
+use Rattle.ivl_places.specs.Edits.{replaced, widened}
+use Rattle.ivl_places.proofs.Allocating.{some_in_span}
+use Rattle.ivl_images.proofs.Sweeping.{adds_nothing}
 use Rattle.intervallum.proofs.interval_set.IntervalSet.insert_from.Goals as goal
 
 pub replace-requires-clause-runs : goal.replace-requires-clause-runs

@@ -1,4 +1,4 @@
-use Rattle.intervallum.proofs.Finding.{each_is_filled}
+use Rattle.ivl_places.proofs.Finding.{each_is_filled}
 use Rattle.intervallum.proofs.interval_set.IntervalSet.iter.Goals as goal
 
 pub returns-clause-filled : goal.returns-clause-filled

@@ -3,9 +3,9 @@ use Rattle.ivl_laws.specs.Bounds.{width_of}
 use Rattle.ivl_laws.specs.Sets.{SameMembers}
 use Rattle.ivl_laws.specs.Runs.{Covers}
 use Rattle.ivl_laws.specs.Counts.{IsIn}
-use Rattle.intervallum.specs.Members.{IsAscending}
-use Rattle.intervallum.proofs.Members.{all_left, ascending_members, each_is_open, in_members}
-use Rattle.intervallum.proofs.MemberCounts.{members_counted}
+use Rattle.ivl_places.specs.Members.{IsAscending}
+use Rattle.ivl_places.proofs.Members.{all_left, ascending_members, each_is_open, in_members}
+use Rattle.ivl_places.proofs.MemberCounts.{members_counted}
 use Rattle.intervallum.proofs.interval_set.IntervalSet.members.Goals as goal
 
 pub invariant_of-result : goal.invariant_of-result

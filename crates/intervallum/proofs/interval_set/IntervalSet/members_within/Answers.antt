@@ -1,7 +1,7 @@
 use Rattle.std.proofs.Common.{◌≡◌, ℤ, ◌≤ℤ◌, [], subst, sym}
 use Rattle.std.specs.List.{AllByRecursion}
 use Rattle.ivl_laws.specs.Runs.{Covers}
-use Rattle.intervallum.proofs.MembersWithin.{IsListWithin, no_item, of_many, of_none, of_one, open_between, within_counted}
+use Rattle.ivl_places.proofs.MembersWithin.{IsListWithin, no_item, of_many, of_none, of_one, open_between, within_counted}
 use Rattle.intervallum.proofs.interval_set.IntervalSet.members_within.Goals.{in-None-split_last, in-Some-split_last}
 use Rattle.intervallum.proofs.interval_set.IntervalSet.members_within.Given as given
 use Rattle.intervallum.proofs.interval_set.IntervalSet.members_within.Goals as goal

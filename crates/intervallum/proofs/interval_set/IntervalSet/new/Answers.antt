@@ -1,4 +1,4 @@
-use Rattle.intervallum.proofs.IntervalOperands.{holds_one}
+use Rattle.ivl_places.proofs.IntervalOperands.{holds_one}
 use Rattle.intervallum.proofs.interval_set.IntervalSet.new.Goals as goal
 
 pub invariant_of-result : goal.invariant_of-result

@@ -1,7 +1,7 @@
 use Rattle.std.proofs.Common.{ℤ, List, length, ap, subst, arith}
 use Rattle.ivl_laws.specs.Runs.{Covers}
-use Rattle.intervallum.proofs.Finding.{covered_at_place}
-use Rattle.intervallum.proofs.Neighbours.{next_at, no_next}
+use Rattle.ivl_places.proofs.Finding.{covered_at_place}
+use Rattle.ivl_places.proofs.Neighbours.{next_at, no_next}
 use Rattle.intervallum.proofs.interval_set.IntervalSet.next_from.Goals as goal
 use lib.Signed.{≤ℤ_refl}
 

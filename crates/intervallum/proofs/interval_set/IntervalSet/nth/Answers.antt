@@ -3,7 +3,7 @@ use Rattle.ivl_laws.specs.Bounds.{width_of}
 use Rattle.ivl_laws.specs.Counts.{IsCountOf}
 use Rattle.ivl_laws.specs.Sets.{Below}
 use Rattle.ivl_laws.specs.Runs.{Covers, IsRunListIn}
-use Rattle.intervallum.proofs.Ranks.{counts_all, counts_more, counts_none, no_room, nth_has_below, nth_is_member}
+use Rattle.ivl_places.proofs.Ranks.{counts_all, counts_more, counts_none, no_room, nth_has_below, nth_is_member}
 use Rattle.intervallum.proofs.interval_set.IntervalSet.nth.Goals as goal
 
 pub loop-run-init : goal.loop-run-init

@@ -4,7 +4,7 @@ use Rattle.ivl_laws.specs.Sets.{IsBetween}
 use Rattle.ivl_laws.proofs.Adding.{untrue}
 use Rattle.ivl_laws.proofs.Intervals.{not_crossed}
 use Rattle.ivl_laws.proofs.Ranges.{IsRunsOf-none}
-use Rattle.intervallum.proofs.IntervalOperands.{of_some}
+use Rattle.ivl_places.proofs.IntervalOperands.{of_some}
 use Rattle.intervallum.proofs.interval_set.IntervalSet.of.Goals as goal
 
 pub returns-clause-members : goal.returns-clause-members

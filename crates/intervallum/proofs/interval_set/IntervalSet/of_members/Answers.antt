@@ -4,7 +4,7 @@ use Rattle.std.proofs.lemmas.Result.{IfOk-weaker}
 use Rattle.ivl_laws.specs.Sets.{IsBetween}
 use Rattle.ivl_laws.specs.Runs.{Covers, IsRunsOf}
 use Rattle.ivl_laws.proofs.SetLaws.{IsRunsOf-same}
-use Rattle.intervallum.proofs.Collecting.{next_written, singles_cover}
+use Rattle.ivl_places.proofs.Collecting.{next_written, singles_cover}
 use Rattle.intervallum.proofs.interval_set.IntervalSet.of_members.Goals as goal
 
 pub singleton-requires : goal.singleton-requires

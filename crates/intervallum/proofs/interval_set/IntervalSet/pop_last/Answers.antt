@@ -4,9 +4,9 @@ use Rattle.ivl_laws.specs.Sets.{Only, Without}
 use Rattle.ivl_laws.specs.Runs.{Covers, IsRunsOf}
 use Rattle.ivl_laws.proofs.Ranges.{IsRunListIn-runs}
 use Rattle.ivl_laws.proofs.SetLaws.{IsRunsOf-same}
-use Rattle.intervallum.specs.Edits.{replaced}
-use Rattle.ivl_merges.specs.HeldRun.{led_by}
-use Rattle.intervallum.proofs.Popping.{some_member, without_greatest}
+use Rattle.ivl_places.specs.Edits.{replaced}
+use Rattle.ivl_walks.specs.HeldRun.{led_by}
+use Rattle.ivl_places.proofs.Popping.{some_member, without_greatest}
 use Rattle.intervallum.proofs.interval_set.IntervalSet.pop_last.Goals as goal
 
 pub upper-greatest-requires : goal.upper-greatest-requires

@@ -1,7 +1,7 @@
 use Rattle.std.proofs.Common.{ℤ, List, subst}
 use Rattle.ivl_laws.specs.Runs.{Covers}
 use lib.Signed.{≤ℤ_refl}
-use Rattle.intervallum.proofs.Finding.{covered_at_place}
+use Rattle.ivl_places.proofs.Finding.{covered_at_place}
 use Rattle.intervallum.proofs.interval_set.IntervalSet.previous_to.Goals as goal
 
 pub returns-in-In : goal.returns-in-In

@@ -1,5 +1,5 @@
 use Rattle.std.proofs.Common.{ℤ, ◌+◌, List, length, length-append, ap, ◌∙◌, arith}
-use Rattle.intervallum.proofs.CutRuns.{behind, pushed_cut, rest_in}
+use Rattle.ivl_places.proofs.CutRuns.{behind, pushed_cut, rest_in}
 use Rattle.intervallum.proofs.interval_set.IntervalSet.push_cut.Goals as goal
 
 pub grown-self-inside-requires : goal.grown-self-inside-requires

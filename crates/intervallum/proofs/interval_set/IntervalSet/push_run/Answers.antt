@@ -1,5 +1,5 @@
 use Rattle.ivl_laws.proofs.Intervals.{within_is_in_range}
-use Rattle.intervallum.proofs.Pushing.{pushed_run}
+use Rattle.ivl_places.proofs.Pushing.{pushed_run}
 use Rattle.intervallum.proofs.interval_set.IntervalSet.push_run.Goals as goal
 
 pub grown-size-requires : goal.grown-size-requires

@@ -3,7 +3,7 @@ use Rattle.ivl_laws.specs.Counts.{IsCountOf}
 use Rattle.ivl_laws.specs.Sets.{Below}
 use Rattle.ivl_laws.specs.Runs.{Covers, IsRunListIn}
 use Rattle.ivl_laws.proofs.Orders.{le_number}
-use Rattle.intervallum.proofs.Ranks.{ranks_all, ranks_done, ranks_fit, ranks_more, ranks_none}
+use Rattle.ivl_places.proofs.Ranks.{ranks_all, ranks_done, ranks_fit, ranks_more, ranks_none}
 use Rattle.intervallum.proofs.interval_set.IntervalSet.rank.Goals as goal
 
 pub loop-run-init : goal.loop-run-init

@@ -6,9 +6,9 @@ use Rattle.ivl_laws.proofs.Adding.{untrue}
 use Rattle.ivl_laws.proofs.Intervals.{not_crossed}
 use Rattle.ivl_laws.proofs.Ranges.{IsRunListIn-runs}
 use Rattle.ivl_laws.proofs.Runs.{lower_end}
-use Rattle.intervallum.specs.Edits.{IsSpan, replaced, widened}
-use Rattle.intervallum.proofs.Allocating.{ok_unless_split}
-use Rattle.intervallum.proofs.Splicing.{left_where_none}
+use Rattle.ivl_places.specs.Edits.{IsSpan, replaced, widened}
+use Rattle.ivl_places.proofs.Allocating.{ok_unless_split}
+use Rattle.ivl_places.proofs.Splicing.{left_where_none}
 use Rattle.intervallum.proofs.interval_set.IntervalSet.remove_from.Goals as goal
 
 pub returns-then-start-end-clause-ok : goal.returns-then-start-end-clause-ok

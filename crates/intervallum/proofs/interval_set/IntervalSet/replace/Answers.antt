@@ -1,7 +1,7 @@
 use Rattle.std.proofs.Common.{ℤ, ◌-◌, ◌∙◌, List, ap, drop, sum_by, take, arith}
 use Rattle.ivl_laws.specs.Bounds.{width_of}
-use Rattle.intervallum.specs.Edits.{replaced}
-use Rattle.intervallum.proofs.Splicing.{is_resized}
+use Rattle.ivl_places.specs.Edits.{replaced}
+use Rattle.ivl_places.proofs.Splicing.{is_resized}
 use Rattle.intervallum.proofs.interval_set.IntervalSet.replace.Goals as goal
 
 pub total_size-gone-requires : goal.total_size-gone-requires

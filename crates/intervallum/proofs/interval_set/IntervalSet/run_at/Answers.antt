@@ -1,8 +1,8 @@
 use Rattle.std.proofs.Common.{◌≡◌, ℤ, List, Some, subst}
 use Rattle.std.specs.Prelude.{slice_get}
 use Rattle.ivl_laws.specs.Runs.{Covers}
-use Rattle.intervallum.specs.Neighbours.{IsRunWith}
-use Rattle.intervallum.proofs.Finding.{place_is_less}
+use Rattle.ivl_places.specs.Neighbours.{IsRunWith}
+use Rattle.ivl_places.proofs.Finding.{place_is_less}
 use Rattle.intervallum.proofs.interval_set.IntervalSet.run_at.Goals as goal
 
 pub returns-in-In : goal.returns-in-In

@@ -3,11 +3,11 @@ use Rattle.ivl_laws.specs.Sets.{IsBetween}
 use Rattle.ivl_laws.specs.Runs.{Covers, IsMaximal, IsRunListIn, IsRunsOf}
 use Rattle.ivl_laws.proofs.Adding.{untrue}
 use Rattle.ivl_laws.proofs.Intervals.{not_crossed}
-use Rattle.intervallum.specs.Places.{EndBelow, StartAbove}
-use Rattle.intervallum.specs.Windows.{OfRunsThatMeet}
-use Rattle.intervallum.proofs.Finding.{EndBelow-more}
-use Rattle.intervallum.proofs.WholeRuns.{each_meets, met_runs}
-use Rattle.intervallum.proofs.Windows.{first_of_kept, is_window, part_is_run_list, starts_of_kept}
+use Rattle.ivl_places.specs.Places.{EndBelow, StartAbove}
+use Rattle.ivl_places.specs.Windows.{OfRunsThatMeet}
+use Rattle.ivl_places.proofs.Finding.{EndBelow-more}
+use Rattle.ivl_places.proofs.WholeRuns.{each_meets, met_runs}
+use Rattle.ivl_places.proofs.Windows.{first_of_kept, is_window, part_is_run_list, starts_of_kept}
 use Rattle.intervallum.proofs.interval_set.IntervalSet.runs_within.Goals as goal
 
 pub last_up_to-end-requires-clause-below : goal.last_up_to-end-requires-clause-below

@@ -1,7 +1,7 @@
 use Rattle.ivl_laws.specs.Sets.{IsBetween}
 use Rattle.ivl_laws.specs.Runs.{Covers}
 use Rattle.ivl_laws.proofs.Counts.{IsCountOf-same}
-use Rattle.intervallum.proofs.WholeRuns.{met_have_all}
+use Rattle.ivl_places.proofs.WholeRuns.{met_have_all}
 use Rattle.intervallum.proofs.interval_set.IntervalSet.size_within.Goals as goal
 
 pub returns : goal.returns

@@ -2,7 +2,7 @@ use Rattle.std.proofs.Common.{⊎_elim, ℤ, subst}
 use Rattle.ivl_laws.specs.Sets.{AtLeast, IsBetween, SameMembers}
 use Rattle.ivl_laws.specs.Runs.{Covers}
 use Rattle.ivl_laws.proofs.SetLaws.{IsRunsOf-same}
-use Rattle.intervallum.proofs.Splitting.{cut_is_last, rest_is_below}
+use Rattle.ivl_places.proofs.Splitting.{cut_is_last, rest_is_below}
 use Rattle.intervallum.proofs.interval_set.IntervalSet.split_off.Goals as goal
 
 pub unwrap-requires : goal.unwrap-requires

@@ -1,5 +1,5 @@
 use Rattle.ivl_laws.specs.Runs.{Covers}
-use Rattle.intervallum.proofs.Fits.{fit_splits_none}
+use Rattle.ivl_places.proofs.Fits.{fit_splits_none}
 use Rattle.intervallum.proofs.interval_set.IntervalSet.take_first_fit.Goals as goal
 
 pub unwrap-requires : goal.unwrap-requires

@@ -3,7 +3,7 @@ use Rattle.ivl_laws.specs.Counts.{IsCountOf}
 use Rattle.ivl_laws.specs.Sets.{Union}
 use Rattle.ivl_laws.specs.Runs.{Covers}
 use Rattle.ivl_laws.proofs.Lengths.{decide_covers}
-use Rattle.intervallum.proofs.SetSizes.{count_fits, union_count}
+use Rattle.ivl_places.proofs.SetSizes.{count_fits, union_count}
 use Rattle.intervallum.proofs.interval_set.IntervalSet.union_size.Goals as goal
 
 pub grown-requires : goal.grown-requires

@@ -3,7 +3,7 @@ use Rattle.std.proofs.lemmas.List.{map-id}
 use Rattle.std.specs.Prelude.{slice_get}
 use Rattle.ivl_laws.specs.Runs.{AddsRun}
 use Rattle.ivl_laws.proofs.Intervals.{within_is_in_range}
-use Rattle.ivl_merges.proofs.Unions.{last_is_open}
+use Rattle.ivl_walks.proofs.Unions.{last_is_open}
 use Rattle.intervallum.proofs.interval_set.builder.add_reserved.Goals as goal
 
 pub push_joined-requires-clause-last : goal.push_joined-requires-clause-last

@@ -1,7 +1,7 @@
 use Rattle.std.proofs.Common.{map, take_all, ap, ◌∙◌, arith}
 use Rattle.std.proofs.lemmas.List.Elements.{All-get_or}
 use Rattle.ivl_laws.specs.Sets.{IsInRange}
-use Rattle.intervallum.proofs.Collecting.{next_written}
+use Rattle.ivl_places.proofs.Collecting.{next_written}
 use Rattle.intervallum.proofs.interval_set.conversions.of_pairs.Goals as goal
 
 pub new-requires : goal.new-requires

@@ -1,9 +1,9 @@
 use Rattle.std.proofs.Common.{◌∙◌, ◌+◌, ◌-◌, ◌<◌, ◌≤◌, ℕ, ℤ, List, length, subst, refl}
 use Rattle.ivl_laws.specs.Runs.{Covers}
 use Rattle.ivl_laws.proofs.Runs.{pair_same}
-use Rattle.intervallum.proofs.FirstFit.{IsFitOf, at_least_by_count, below_by_count, bounds_from, fit_in_run, fit_past_run, holds_here}
-use Rattle.intervallum.proofs.Slices.{from_place}
-use Rattle.intervallum.proofs.Windows.{part_is_run_list}
+use Rattle.ivl_places.proofs.FirstFit.{IsFitOf, at_least_by_count, below_by_count, bounds_from, fit_in_run, fit_past_run, holds_here}
+use Rattle.ivl_laws.proofs.Slices.{from_place}
+use Rattle.ivl_places.proofs.Windows.{part_is_run_list}
 use Rattle.intervallum.proofs.interval_set.first_fit.fit_from_run.Goals as goal
 
 pub upper-requires : goal.upper-requires

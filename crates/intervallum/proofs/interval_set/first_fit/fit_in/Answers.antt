@@ -1,5 +1,5 @@
 use Rattle.std.proofs.Common.{◌<◌, ◌≤◌, ℕ, subst, arith}
-use Rattle.intervallum.proofs.FirstFit.{at_least_by_count, below_by_count, fits_as_all, fits_as_next, fits_here, nothing_fits}
+use Rattle.ivl_places.proofs.FirstFit.{at_least_by_count, below_by_count, fits_as_all, fits_as_next, fits_here, nothing_fits}
 use Rattle.intervallum.proofs.interval_set.first_fit.fit_in.Goals as goal
 
 pub lowest_of-requires-clause-enough : goal.lowest_of-requires-clause-enough

@@ -1,4 +1,4 @@
-use Rattle.intervallum.proofs.FirstFit.{FitsAsRest}
+use Rattle.ivl_places.proofs.FirstFit.{FitsAsRest}
 use Rattle.intervallum.proofs.interval_set.first_fit.fit_in.Given as goal
 
 -- what fits in the runs that are left is what fits in all

@@ -1,7 +1,7 @@
 use Rattle.std.proofs.Common.{◌∙◌, ℤ, ◌≤ℤ◌, sym, subst}
 use Rattle.ivl_laws.specs.Sets.{IsBetween}
 use Rattle.ivl_laws.proofs.Runs.{pair_same}
-use Rattle.intervallum.proofs.Offsets.{count_fits, last_in, last_is, start_in, sum_fits}
+use Rattle.ivl_images.proofs.Offsets.{count_fits, last_in, last_is, start_in, sum_fits}
 use Rattle.intervallum.proofs.interval_set.first_fit.lowest_of.Goals as goal
 
 pub overflow_cast-last : goal.overflow_cast-last

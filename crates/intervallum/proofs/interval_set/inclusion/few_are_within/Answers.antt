@@ -1,7 +1,7 @@
 use Rattle.std.proofs.Common.{ℤ, ◌≤ℤ◌, List, sym, subst, ◌∙◌}
 use Rattle.ivl_laws.proofs.Places.{open_at}
-use Rattle.intervallum.specs.Places.{CoversFrom}
-use Rattle.intervallum.proofs.Finding.{found_for_next, one_run_not_included}
+use Rattle.ivl_places.specs.Places.{CoversFrom}
+use Rattle.ivl_places.proofs.Finding.{found_for_next, one_run_not_included}
 use Rattle.intervallum.proofs.interval_set.inclusion.few_are_within.Goals as goal
 
 pub holder-requires-clause-filled : goal.holder-requires-clause-filled

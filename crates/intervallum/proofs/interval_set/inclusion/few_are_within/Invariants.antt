@@ -1,6 +1,6 @@
 use Rattle.std.proofs.Common.{◌≡◌}
 use Rattle.ivl_laws.specs.Runs.{IsMaximal}
-use Rattle.intervallum.proofs.Finding.{FoundFor}
+use Rattle.ivl_places.proofs.Finding.{FoundFor}
 use Rattle.intervallum.proofs.interval_set.inclusion.few_are_within.Given as goal
 
 -- the runs so far are held, and the next one is looked for from a place below it

@@ -3,7 +3,7 @@ use Rattle.std.specs.Prelude.{slice_get}
 use Rattle.ivl_laws.specs.Runs.{IsRunListIn}
 use Rattle.ivl_laws.proofs.Orders.{le_number}
 use Rattle.ivl_laws.proofs.Intervals.{some_is_not_crossed}
-use Rattle.intervallum.proofs.Finding.{held_by_none, holds_at_place, place_is_less}
+use Rattle.ivl_places.proofs.Finding.{held_by_none, holds_at_place, place_is_less}
 use Rattle.intervallum.proofs.interval_set.inclusion.holder.Goals as goal
 
 pub returns-then-le-clause-held : goal.returns-then-le-clause-held

@@ -3,8 +3,8 @@ use Rattle.ivl_laws.specs.Counts.{IsCountOf}
 use Rattle.ivl_laws.specs.Sets.{Intersection}
 use Rattle.ivl_laws.specs.Runs.{Covers}
 use Rattle.ivl_laws.proofs.Places.{open_at}
-use Rattle.intervallum.proofs.Lopsided.{all_looks, more_looks, counted_by_next, counted_by_none, counted_more}
-use Rattle.intervallum.proofs.PartCounts.{parts_all, parts_fit}
+use Rattle.ivl_places.proofs.Lopsided.{all_looks, more_looks, counted_by_next, counted_by_none, counted_more}
+use Rattle.ivl_places.proofs.PartCounts.{parts_all, parts_fit}
 use Rattle.intervallum.proofs.interval_set.lopsided.common_size_with_few.Goals as goal
 
 pub loop-run-init : goal.loop-run-init

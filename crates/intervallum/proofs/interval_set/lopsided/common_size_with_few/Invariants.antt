@@ -1,6 +1,6 @@
 use Rattle.std.proofs.Common.{◌≡◌, ℕ, ◌+◌, ◌*◌, ◌^◌, ◌<◌, ◌≤◌, length}
 use Rattle.ivl_laws.specs.Runs.{IsRunListIn}
-use Rattle.intervallum.proofs.Lopsided.{CountedSoFar}
+use Rattle.ivl_places.proofs.Lopsided.{CountedSoFar}
 use Rattle.intervallum.proofs.interval_set.lopsided.common_size_with_few.Given as goal
 
 -- what the runs so far have in common with the many is counted

@@ -3,7 +3,7 @@ use Rattle.ivl_laws.specs.Sets.{Intersection}
 use Rattle.ivl_laws.specs.Runs.{Covers, IsRunsOf}
 use Rattle.ivl_laws.proofs.Lengths.{length_of_intersection}
 use Rattle.ivl_laws.proofs.Places.{open_at}
-use Rattle.intervallum.proofs.Lopsided.{all_looks, more_looks, shared_by_all, shared_by_next, shared_by_none, written_below}
+use Rattle.ivl_places.proofs.Lopsided.{all_looks, more_looks, shared_by_all, shared_by_next, shared_by_none, written_below}
 use Rattle.intervallum.proofs.interval_set.lopsided.common_with_few.Goals as goal
 
 pub push_shared-requires-clause-filled : goal.push_shared-requires-clause-filled

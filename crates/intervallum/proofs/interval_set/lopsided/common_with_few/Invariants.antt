@@ -1,6 +1,6 @@
 use Rattle.std.proofs.Common.{◌≡◌, ℕ, ◌+◌, ◌*◌, ◌^◌, ◌<◌, ◌≤◌, length}
 use Rattle.ivl_laws.specs.Runs.{IsMaximal}
-use Rattle.intervallum.proofs.Lopsided.{SharedSoFar}
+use Rattle.ivl_places.proofs.Lopsided.{SharedSoFar}
 use Rattle.intervallum.proofs.interval_set.lopsided.common_with_few.Given as goal
 
 -- what is written is what the runs so far have in common with the many

@@ -1,4 +1,4 @@
-use Rattle.intervallum.proofs.Lopsided.{without_shared}
+use Rattle.ivl_places.proofs.Lopsided.{without_shared}
 use Rattle.intervallum.proofs.interval_set.lopsided.few_without.Goals as goal
 
 pub returns : goal.returns

@@ -1,4 +1,4 @@
-use Rattle.intervallum.proofs.Lopsided.{with_part}
+use Rattle.ivl_places.proofs.Lopsided.{with_part}
 use Rattle.intervallum.proofs.interval_set.lopsided.push_shared.Goals as goal
 
 pub push_cut-requires-clause-apart : goal.push_cut-requires-clause-apart

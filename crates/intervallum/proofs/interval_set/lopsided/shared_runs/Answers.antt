@@ -1,8 +1,8 @@
 use Rattle.std.proofs.Common.{◌∙◌, ◌≤◌, ℤ, List, length, take, ap, subst, sym, arith}
 use Rattle.std.proofs.lemmas.Int.{ints}
-use Rattle.intervallum.specs.Places.{EndBelow}
-use Rattle.intervallum.proofs.Lopsided.{is_shared}
-use Rattle.intervallum.proofs.Finding.{EndBelow-more}
+use Rattle.ivl_places.specs.Places.{EndBelow}
+use Rattle.ivl_places.proofs.Lopsided.{is_shared}
+use Rattle.ivl_places.proofs.Finding.{EndBelow-more}
 use Rattle.intervallum.proofs.interval_set.lopsided.shared_runs.Goals as goal
 
 pub first_from-start-requires-clause-at_most : goal.first_from-start-requires-clause-at_most

@@ -1,4 +1,4 @@
-use Rattle.intervallum.proofs.Lopsided.{without_free}
+use Rattle.ivl_places.proofs.Lopsided.{without_free}
 use Rattle.intervallum.proofs.interval_set.lopsided.without_few.Goals as goal
 
 pub returns : goal.returns

@@ -1,7 +1,7 @@
 use Rattle.std.proofs.Common.{ℤ, length, ap, take_all, List, arith}
 use Rattle.ivl_laws.specs.Bounds.{width_of}
-use Rattle.intervallum.specs.Members.{members_of}
-use Rattle.intervallum.proofs.MemberCounts.{left_counted, more_counted}
+use Rattle.ivl_places.specs.Members.{members_of}
+use Rattle.ivl_places.proofs.MemberCounts.{left_counted, more_counted}
 use Rattle.intervallum.proofs.interval_set.members.count_of.Goals as goal
 
 pub loop-run-preserved : goal.loop-run-preserved

@@ -1,6 +1,6 @@
 use Rattle.std.proofs.Common.{◌∙◌, subst, sym}
 use Rattle.ivl_laws.specs.Sets.{IsBetween}
-use Rattle.intervallum.proofs.Offsets.{place_fits, place_in, place_is, place_sum_fits}
+use Rattle.ivl_images.proofs.Offsets.{place_fits, place_in, place_is, place_sum_fits}
 use Rattle.intervallum.proofs.interval_set.rank.member_at.Goals as goal
 
 pub overflow_cast-number : goal.overflow_cast-number

@@ -1,9 +1,9 @@
 use Rattle.std.proofs.Common.{◌≡◌, ℤ, pos, List, length, take, take_all, ap, sym, subst, ◌∙◌, arith}
 use Rattle.std.proofs.lemmas.List.{ext_get_or}
 use Rattle.ivl_laws.specs.Runs.{IsMaximal}
-use Rattle.intervallum.specs.Sweeps.{run_at}
-use Rattle.intervallum.proofs.Images.{open_here}
-use Rattle.intervallum.proofs.EqualRuns.{same_to_next}
+use Rattle.ivl_images.specs.Sweeps.{run_at}
+use Rattle.ivl_images.proofs.Images.{open_here}
+use Rattle.ivl_images.proofs.EqualRuns.{same_to_next}
 use Rattle.intervallum.proofs.interval_set.run_lists.all_are_the_same.Goals as goal
 
 pub is_same-are_same-requires-clause-run : goal.is_same-are_same-requires-clause-run

@@ -1,5 +1,5 @@
 use Rattle.std.proofs.Common.{◌↔◌, ℕ, ◌<◌, IsTrue}
-use Rattle.intervallum.proofs.EqualRuns.{SameAt}
+use Rattle.ivl_images.proofs.EqualRuns.{SameAt}
 use Rattle.intervallum.proofs.interval_set.run_lists.all_are_the_same.Given as goal
 
 abbrev pub invariant-loop-i : goal.invariant-loop-i

@@ -1,5 +1,5 @@
 use Rattle.std.proofs.Common.{rules, ◌<◌, length}
-use Rattle.intervallum.proofs.Listing.{in_range_by_ends}
+use Rattle.ivl_places.proofs.Listing.{in_range_by_ends}
 use Rattle.intervallum.proofs.interval_set.run_lists.are_in_whole.Goals as goal
 
 pub returns-then-not-is_empty : goal.returns-then-not-is_empty

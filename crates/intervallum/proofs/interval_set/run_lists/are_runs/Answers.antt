@@ -2,7 +2,7 @@ use Rattle.std.proofs.Common.{refl, sym, true≢false, arith}
 use Rattle.std.proofs.lemmas.Int.{ints}
 use Rattle.ivl_laws.proofs.Adding.{untrue}
 use Rattle.ivl_laws.proofs.Intervals.{not_crossed, within_is_in_range}
-use Rattle.intervallum.proofs.Listing.{first_is_read, next_is_read, next_is_apart, all_are_read}
+use Rattle.ivl_places.proofs.Listing.{first_is_read, next_is_read, next_is_apart, all_are_read}
 use Rattle.intervallum.proofs.interval_set.run_lists.are_runs.Goals as goal
 use Rattle.intervallum.proofs.interval_set.run_lists.are_runs.Goals.{then-is_empty-2-via-then-is_empty-2, then-is_empty-2-via-else-is_empty-2+then-joins}
 

@@ -1,4 +1,4 @@
-use Rattle.intervallum.proofs.Listing.{IsReadTo}
+use Rattle.ivl_places.proofs.Listing.{IsReadTo}
 use Rattle.intervallum.proofs.interval_set.run_lists.are_runs.Given as goal
 
 abbrev pub invariant-loop-run : goal.invariant-loop-run

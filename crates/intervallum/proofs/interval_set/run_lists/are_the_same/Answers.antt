@@ -1,8 +1,8 @@
 use Rattle.std.proofs.Common.{◌≡◌, ◌+◌, ◌*◌, ◌-◌, ◌/◌, ℕ, ℤ, List, length, take, drop, ap, sym, true≢false, ◌∙◌, arith}
 use Rattle.ivl_laws.proofs.Adding.{untrue}
 use Rattle.ivl_laws.proofs.Places.{IsMaximal-drop, IsMaximal-take}
-use Rattle.intervallum.proofs.EqualRuns.{same_part, same_rest}
-use Rattle.intervallum.proofs.Slices.{from_place}
+use Rattle.ivl_images.proofs.EqualRuns.{same_part, same_rest}
+use Rattle.ivl_laws.proofs.Slices.{from_place}
 use Rattle.intervallum.proofs.interval_set.run_lists.are_the_same.Goals as goal
 
 pub all_are_the_same-requires-clause-left : goal.all_are_the_same-requires-clause-left

@@ -1,7 +1,7 @@
 use Rattle.std.proofs.Common.{ℤ, ◌∙◌, ◌-◌, length, ap, arith, refl}
 use Rattle.ivl_laws.proofs.Intervals.{some_is_not_crossed}
-use Rattle.intervallum.proofs.Images.{open_here}
-use Rattle.intervallum.proofs.Fitting.{hull_of_ends}
+use Rattle.ivl_images.proofs.Images.{open_here}
+use Rattle.ivl_images.proofs.Fitting.{hull_of_ends}
 use Rattle.intervallum.proofs.interval_set.run_lists.hull_of_runs.Goals as goal
 
 pub upper-requires : goal.upper-requires

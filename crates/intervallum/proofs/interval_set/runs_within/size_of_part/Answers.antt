@@ -2,7 +2,7 @@ use Rattle.std.proofs.Common.{◌+◌, ℕ, take, subst, sym}
 use Rattle.ivl_laws.specs.Counts.{IsCountOf}
 use Rattle.ivl_laws.specs.Sets.{Intersection, IsBetween}
 use Rattle.ivl_laws.specs.Runs.{Covers}
-use Rattle.intervallum.proofs.PartCounts.{parts_all, parts_fit, parts_more, parts_none}
+use Rattle.ivl_places.proofs.PartCounts.{parts_all, parts_fit, parts_more, parts_none}
 use Rattle.intervallum.proofs.interval_set.runs_within.size_of_part.Goals as goal
 
 pub loop-run-init : goal.loop-run-init

@@ -4,7 +4,7 @@ use Rattle.ivl_laws.proofs.Adding.{untrue}
 use Rattle.ivl_laws.proofs.Intervals.{not_crossed, some_is_not_crossed}
 use Rattle.std.proofs.lemmas.Result.{IfOk-weaker}
 use Rattle.ivl_laws.proofs.Ranges.{IsRunsOf-none}
-use Rattle.intervallum.proofs.Windows.{is_window, cut_from_part, first_of_kept, part_is_run_list, starts_of_kept}
+use Rattle.ivl_places.proofs.Windows.{is_window, cut_from_part, first_of_kept, part_is_run_list, starts_of_kept}
 use Rattle.intervallum.proofs.interval_set.shrinks.cut.Goals as goal
 
 pub lower-requires : goal.lower-requires

@@ -1,6 +1,6 @@
 use Rattle.std.proofs.Common.{◌-◌, set, arith}
 use Rattle.ivl_laws.proofs.Intervals.{some_is_not_crossed}
-use Rattle.intervallum.proofs.Cutting.{IsCutFrom, is_cut_from}
+use Rattle.ivl_places.proofs.Cutting.{IsCutFrom, is_cut_from}
 use Rattle.intervallum.proofs.interval_set.shrinks.cut_ends.Goals as goal
 
 pub returns-clause-before : goal.returns-clause-before

@@ -1,6 +1,6 @@
 use Rattle.std.proofs.Common.{ℤ, List, length, ap, subst, arith}
 use Rattle.ivl_laws.specs.Runs.{Covers}
-use Rattle.intervallum.proofs.CutRuns.{none_before}
+use Rattle.ivl_places.proofs.CutRuns.{none_before}
 use Rattle.intervallum.proofs.interval_set.shrinks.cut_runs.Goals as goal
 
 pub push_cut-requires-clause-apart : goal.push_cut-requires-clause-apart

@@ -6,8 +6,8 @@ use Rattle.ivl_laws.specs.Runs.{Covers}
 use Rattle.ivl_laws.specs.Counts.{IsCountOf}
 use Rattle.ivl_laws.proofs.Lengths.{length_of_complement}
 use Rattle.ivl_laws.proofs.Widths.{IsCountOf-total_width}
-use Rattle.ivl_merges.proofs.Complements.{all_but}
-use Rattle.intervallum.proofs.Merged.{list_of_pairs, merged_list, merged_rest, no_pairs}
+use Rattle.ivl_walks.proofs.Complements.{all_but}
+use Rattle.ivl_places.proofs.Merged.{list_of_pairs, merged_list, merged_rest, no_pairs}
 use Rattle.intervallum.proofs.steps.complement.gaps.Goals as goal
 
 pub complement-requires-clause-runs : goal.complement-requires-clause-runs

@@ -1,7 +1,7 @@
 use Rattle.std.proofs.Common.{⊎_elim}
 use Rattle.ivl_laws.specs.Sets.{SymmetricDifference}
-use Rattle.ivl_merges.proofs.RunBounds.{length_of_one_alone}
-use Rattle.intervallum.proofs.Merged.{list_of_pairs, merged_list, merged_runs}
+use Rattle.ivl_walks.proofs.RunBounds.{length_of_one_alone}
+use Rattle.ivl_places.proofs.Merged.{list_of_pairs, merged_list, merged_runs}
 use Rattle.intervallum.proofs.steps.differences.one_alone.Goals as goal
 
 pub symmetric_difference-requires-clause-first : goal.symmetric_difference-requires-clause-first

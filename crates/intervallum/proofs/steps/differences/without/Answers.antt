@@ -1,6 +1,6 @@
 use Rattle.ivl_laws.specs.Sets.{Without}
-use Rattle.ivl_merges.proofs.RunBounds.{length_of_without}
-use Rattle.intervallum.proofs.Merged.{list_of_pairs, merged_list, merged_runs, no_pairs}
+use Rattle.ivl_walks.proofs.RunBounds.{length_of_without}
+use Rattle.ivl_places.proofs.Merged.{list_of_pairs, merged_list, merged_runs, no_pairs}
 use Rattle.intervallum.proofs.steps.differences.without.Goals as goal
 
 pub difference-requires-clause-first : goal.difference-requires-clause-first

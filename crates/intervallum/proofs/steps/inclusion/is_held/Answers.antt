@@ -1,8 +1,8 @@
 use Rattle.std.proofs.Common.{◌≤ℤ◌, sym, subst, true≢false}
 use Rattle.ivl_laws.proofs.Intervals.{some_is_not_crossed}
 use Rattle.ivl_laws.proofs.Orders.{le_number}
-use Rattle.intervallum.proofs.Inclusions.{IsPassed, held_by_first, held_by_no_more, passed_open, passed_same}
-use Rattle.ivl_merges.proofs.Walking.{test_of_bounds}
+use Rattle.ivl_places.proofs.Inclusions.{IsPassed, held_by_first, held_by_no_more, passed_open, passed_same}
+use Rattle.ivl_walks.proofs.Walking.{test_of_bounds}
 use Rattle.intervallum.proofs.steps.inclusion.is_held.Goals as goal
 
 pub upper-requires : goal.upper-requires

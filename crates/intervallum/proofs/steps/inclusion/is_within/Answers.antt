@@ -2,8 +2,8 @@ use Rattle.std.proofs.Common.{refl, sym, true≢false}
 use Rattle.ivl_laws.specs.Sets.{IsSubset}
 use Rattle.ivl_laws.specs.Runs.{Covers}
 use Rattle.ivl_laws.proofs.Adding.{untrue}
-use Rattle.intervallum.proofs.Inclusions.{none_within, within_next, within_not}
-use Rattle.ivl_merges.proofs.Walking.{first_is_open}
+use Rattle.ivl_places.proofs.Inclusions.{none_within, within_next, within_not}
+use Rattle.ivl_walks.proofs.Walking.{first_is_open}
 use Rattle.intervallum.proofs.steps.inclusion.is_within.Goals as goal
 
 pub is_held-requires : goal.is_held-requires

@@ -1,6 +1,6 @@
 use Rattle.ivl_laws.proofs.Orders.{le_number}
-use Rattle.intervallum.proofs.Inclusions.{end_below, passed_more, passed_none}
-use Rattle.ivl_merges.proofs.Walking.{nothing_left}
+use Rattle.ivl_places.proofs.Inclusions.{end_below, passed_more, passed_none}
+use Rattle.ivl_walks.proofs.Walking.{nothing_left}
 use Rattle.intervallum.proofs.steps.inclusion.skip_below.Goals as goal
 
 pub skip-init : goal.skip-init

@@ -1,4 +1,4 @@
-use Rattle.intervallum.proofs.Inclusions.{IsPassed}
+use Rattle.ivl_places.proofs.Inclusions.{IsPassed}
 use Rattle.std.proofs.Common.{length}
 use Rattle.intervallum.proofs.steps.inclusion.skip_below.Given as goal
 

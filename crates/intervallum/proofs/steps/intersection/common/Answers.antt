@@ -1,6 +1,6 @@
 use Rattle.ivl_laws.specs.Sets.{Intersection}
 use Rattle.ivl_laws.proofs.Lengths.{length_of_intersection}
-use Rattle.intervallum.proofs.Merged.{list_of_pairs, merged_list, merged_runs, no_pairs}
+use Rattle.ivl_places.proofs.Merged.{list_of_pairs, merged_list, merged_runs, no_pairs}
 use Rattle.intervallum.proofs.steps.intersection.common.Goals as goal
 
 pub intersection-requires-clause-first : goal.intersection-requires-clause-first

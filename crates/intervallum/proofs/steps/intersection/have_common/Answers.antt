@@ -5,8 +5,8 @@ use Rattle.ivl_laws.proofs.Intervals.{some_is_not_crossed}
 use Rattle.ivl_laws.proofs.Orders.{lt_number}
 use Rattle.ivl_laws.proofs.SetLaws.{same_members_trans}
 use Rattle.ivl_interval.proofs.Pairs.{not_below}
-use Rattle.ivl_merges.proofs.Intersections.{drops_first, drops_second, ends_before, ends_by, has_none_same, has_some_same, meet_here}
-use Rattle.ivl_merges.proofs.Walking.{first_is_open}
+use Rattle.ivl_walks.proofs.Intersections.{drops_first, drops_second, ends_before, ends_by, has_none_same, has_some_same, meet_here}
+use Rattle.ivl_walks.proofs.Walking.{first_is_open}
 use Rattle.intervallum.proofs.steps.intersection.have_common.Goals as goal
 
 pub upper-requires : goal.upper-requires

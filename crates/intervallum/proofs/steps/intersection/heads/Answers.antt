@@ -1,4 +1,4 @@
-use Rattle.ivl_merges.proofs.Intersections.{none_first, none_second}
+use Rattle.ivl_walks.proofs.Intersections.{none_first, none_second}
 use Rattle.intervallum.proofs.steps.intersection.heads.Goals as goal
 
 pub returns-in_err-a-clause-heads : goal.returns-in_err-a-clause-heads

@@ -1,5 +1,5 @@
 use Rattle.std.proofs.Common.{arith}
-use Rattle.intervallum.proofs.Windows.{split_by_run, split_by_gap}
+use Rattle.ivl_places.proofs.Windows.{split_by_run, split_by_gap}
 use Rattle.intervallum.proofs.steps.places.first_from.Goals as goal
 
 pub returns-in-In-clause-below : goal.returns-in-In-clause-below

@@ -1,5 +1,5 @@
 use Rattle.std.proofs.Common.{arith}
-use Rattle.intervallum.proofs.Windows.{split_by_run, split_by_gap}
+use Rattle.ivl_places.proofs.Windows.{split_by_run, split_by_gap}
 use Rattle.intervallum.proofs.steps.places.last_up_to.Goals as goal
 
 pub overflow_add-result : goal.overflow_add-result

@@ -1,5 +1,5 @@
 use Rattle.std.proofs.Common.{arith}
-use Rattle.intervallum.proofs.Edges.{seen_in_gap, seen_in_run}
+use Rattle.ivl_places.proofs.Edges.{seen_in_gap, seen_in_run}
 use Rattle.intervallum.proofs.steps.places.runs_up_to.Goals as goal
 
 pub overflow_add-result : goal.overflow_add-result

@@ -1,7 +1,7 @@
 use Rattle.std.proofs.Common.{◌-◌, arith}
 use Rattle.ivl_laws.proofs.Intervals.{some_is_not_crossed}
 use Rattle.ivl_laws.proofs.Orders.{le_number}
-use Rattle.intervallum.proofs.Edges.{starts_of_last}
+use Rattle.ivl_places.proofs.Edges.{starts_of_last}
 use Rattle.intervallum.proofs.steps.places.starts_by.Goals as goal
 
 pub lower-requires : goal.lower-requires

@@ -1,4 +1,4 @@
-use Rattle.intervallum.proofs.Neighbours.{is_beside}
+use Rattle.ivl_places.proofs.Neighbours.{is_beside}
 use Rattle.intervallum.proofs.steps.search.find.Goals as goal
 
 pub returns-clause-beside : goal.returns-clause-beside

@@ -1,6 +1,6 @@
 use Rattle.std.proofs.Common.{rules, ◌≡◌, ℕ, ◌+◌, ◌<◌, arith, subst, true, false, Bool, ◌∙◌}
 use Rattle.ivl_laws.proofs.Orders.{le_number, lt_number}
-use Rattle.intervallum.proofs.Searching.{IsFrom, gap_at, goes_on, in_at, shrink}
+use Rattle.ivl_places.proofs.Searching.{IsFrom, gap_at, goes_on, in_at, shrink}
 use Rattle.intervallum.proofs.steps.search.find_between.Goals as goal
 
 pub search-preserved : goal.search-preserved

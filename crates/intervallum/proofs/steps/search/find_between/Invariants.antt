@@ -1,7 +1,7 @@
 use Rattle.std.proofs.Common.{◌≡◌, ℕ, ◌+◌, ◌-◌, ◌^◌, ◌<◌, ◌≤◌, length, take}
 use Rattle.ivl_laws.specs.Runs.{IsMaximal}
-use Rattle.intervallum.specs.Places.{EndBelow}
-use Rattle.intervallum.proofs.Searching.{IsFrom}
+use Rattle.ivl_places.specs.Places.{EndBelow}
+use Rattle.ivl_places.proofs.Searching.{IsFrom}
 use Rattle.intervallum.proofs.steps.search.find_between.Given as goal
 
 abbrev pub invariant-search : goal.invariant-search

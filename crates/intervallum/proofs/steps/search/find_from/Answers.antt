@@ -5,8 +5,8 @@ use Rattle.ivl_laws.specs.Sets.{IsBetween}
 use Rattle.std.proofs.lemmas.Int.{by_lt_z}
 use Rattle.ivl_laws.proofs.Adding.{untrue}
 use Rattle.ivl_laws.proofs.Orders.{lt_number}
-use Rattle.intervallum.specs.Places.{EndBelow, StartAbove}
-use Rattle.intervallum.proofs.Searching.{above_from, below_to, doubled, fewer_digits}
+use Rattle.ivl_places.specs.Places.{EndBelow, StartAbove}
+use Rattle.ivl_places.proofs.Searching.{above_from, below_to, doubled, fewer_digits}
 use Rattle.intervallum.proofs.steps.search.find_from.Goals as goal
 
 pub find_between-requires-clause-above : goal.find_between-requires-clause-above

@@ -1,6 +1,6 @@
 use Rattle.std.proofs.Common.{◌≡◌, ℕ, ◌+◌, ◌-◌, ◌^◌, ◌≤◌, length, take}
 use Rattle.ivl_laws.specs.Runs.{IsMaximal}
-use Rattle.intervallum.specs.Places.{EndBelow}
+use Rattle.ivl_places.specs.Places.{EndBelow}
 use Rattle.intervallum.proofs.steps.search.find_from.Given as goal
 
 -- after k looks it is one less than 2 ^ k runs on

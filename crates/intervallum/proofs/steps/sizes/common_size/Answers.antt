@@ -3,8 +3,8 @@ use Rattle.ivl_laws.specs.Sets.{Intersection}
 use Rattle.ivl_laws.specs.Runs.{Covers}
 use Rattle.ivl_laws.proofs.Intervals.{some_is_not_crossed}
 use Rattle.ivl_laws.proofs.Orders.{le_number}
-use Rattle.intervallum.proofs.SetSizes.{IsCounted, counted_ends, counted_fits, counted_next, counted_starts}
-use Rattle.ivl_merges.proofs.Walking.{first_is_open, one_is_taken, test_of_bounds}
+use Rattle.ivl_places.proofs.SetSizes.{IsCounted, counted_ends, counted_fits, counted_next, counted_starts}
+use Rattle.ivl_walks.proofs.Walking.{first_is_open, one_is_taken, test_of_bounds}
 use Rattle.intervallum.proofs.steps.sizes.common_size.Goals as goal
 
 pub walk-init : goal.walk-init

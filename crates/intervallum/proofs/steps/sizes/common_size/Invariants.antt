@@ -1,7 +1,7 @@
 use Rattle.std.proofs.Common.{length, ◌+◌}
 use Rattle.ivl_laws.specs.Sets.{Intersection}
 use Rattle.ivl_laws.specs.Runs.{Covers}
-use Rattle.intervallum.proofs.SetSizes.{IsCounted}
+use Rattle.ivl_places.proofs.SetSizes.{IsCounted}
 use Rattle.intervallum.proofs.steps.sizes.common_size.Given as goal
 
 -- what is counted, and what the two walks have left in common, make up what they had in common

@@ -1,7 +1,7 @@
 use Rattle.std.proofs.Common.{⊎_elim}
 use Rattle.ivl_laws.specs.Sets.{Union}
 use Rattle.ivl_laws.proofs.Lengths.{length_of_union}
-use Rattle.intervallum.proofs.Merged.{list_of_pairs, merged_list, merged_runs, no_pairs}
+use Rattle.ivl_places.proofs.Merged.{list_of_pairs, merged_list, merged_runs, no_pairs}
 use Rattle.intervallum.proofs.steps.union.unite.Goals as goal
 
 pub union-requires-clause-first : goal.union-requires-clause-first

@@ -1,7 +1,7 @@
 use Rattle.ivl_laws.specs.Runs.{Covers}
 use Rattle.ivl_laws.proofs.Adding.{untrue}
 use Rattle.ivl_laws.proofs.Intervals.{not_crossed}
-use Rattle.intervallum.proofs.Halves.{hulls_fit, none_of_none, none_with_none, results_within}
+use Rattle.ivl_images.proofs.Halves.{hulls_fit, none_of_none, none_with_none, results_within}
 use Rattle.intervallum.proofs.sweep.united.has_results.Goals as goal
 use Rattle.intervallum.proofs.sweep.united.has_results.Goals.{then-is_empty-via-then-is_empty, then-is_empty-via-else-is_empty+then-is_empty-2}
 

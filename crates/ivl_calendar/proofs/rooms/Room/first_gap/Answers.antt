@@ -1,7 +1,7 @@
 use Rattle.std.proofs.Common.{ℕ, ℤ, List, Option, Some, None, MatchOption}
 use Rattle.ivl_laws.specs.Runs.{Covers, IsRunsOf}
 use Rattle.ivl_laws.specs.Sets.{IsBetween, Without}
-use Rattle.intervallum.specs.FirstFit.{FitsAt, IsFirstFit}
+use Rattle.ivl_places.specs.FirstFit.{FitsAt, IsFirstFit}
 use Rattle.ivl_calendar.specs.Rooms.{IsBusy}
 use Rattle.ivl_calendar.proofs.Taking.{taken_from_window, within_window}
 use Rattle.ivl_calendar.proofs.rooms.Room.first_gap.Goals as goal

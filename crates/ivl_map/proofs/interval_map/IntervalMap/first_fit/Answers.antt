@@ -1,7 +1,7 @@
 use Rattle.std.proofs.Common.{ℤ}
 use Rattle.ivl_laws.specs.Sets.{IsBetween, Without}
 use Rattle.ivl_laws.specs.Runs.{Covers}
-use Rattle.intervallum.specs.FirstFit.{IsFirstFit}
+use Rattle.ivl_places.specs.FirstFit.{IsFirstFit}
 use Rattle.ivl_map.specs.Entries.{HasAt, HasValue}
 use Rattle.ivl_map.proofs.Lookups.{option_weaker}
 use Rattle.ivl_map.proofs.Numbers.{FitsAt-same, IsFirstFit-same}

@@ -1,6 +1,6 @@
 use Rattle.std.proofs.Common.{ℤ, List, subst, sym}
 use Rattle.std.specs.Prelude.{IfNone, IfOk, IfSome, IsOk}
-use Rattle.intervallum.specs.Edits.{widened}
+use Rattle.ivl_places.specs.Edits.{widened}
 use Rattle.ivl_laws.specs.Sets.{HasNone, HasSome, Intersection, IsBetween}
 use Rattle.ivl_map.specs.Entries.{HasAt, HasValue, IsEntriesOf, IsEntryListIn, Written}
 use Rattle.ivl_map.specs.Lookups.{IsFirstRunOf}

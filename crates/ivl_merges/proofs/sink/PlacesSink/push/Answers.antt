@@ -1,6 +1,6 @@
 use Rattle.std.proofs.Common.{map}
-use Rattle.ivl_merges.proofs.Laying.{length_more}
-use Rattle.ivl_merges.proofs.Places.{lays_next}
+use Rattle.ivl_walks.proofs.Laying.{length_more}
+use Rattle.ivl_walks.proofs.Places.{lays_next}
 use Rattle.ivl_merges.proofs.sink.PlacesSink.push.Goals as goal
 
 pub returns-clause-list : goal.returns-clause-list

@@ -1,7 +1,7 @@
 use Rattle.std.proofs.Common.{◌≡◌, ◌+◌, map, arith}
 use Rattle.std.proofs.lemmas.Int.{ints}
 use Rattle.ivl_laws.proofs.Orders.{le_number}
-use Rattle.ivl_merges.proofs.Places.{adds_or_repeats, written_stands}
+use Rattle.ivl_walks.proofs.Places.{adds_or_repeats, written_stands}
 use Rattle.ivl_merges.proofs.sink.PlacesSink.push_filled.Goals as goal
 
 pub returns-clause-repeats : goal.returns-clause-repeats

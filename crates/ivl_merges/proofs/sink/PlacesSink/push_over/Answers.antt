@@ -1,6 +1,6 @@
 use Rattle.std.proofs.Common.{◌≡◌, ◌-◌, map, arith}
 use Rattle.std.specs.Int.{from_bool}
-use Rattle.ivl_merges.proofs.Places.{count_over, lays_over}
+use Rattle.ivl_walks.proofs.Places.{count_over, lays_over}
 use Rattle.ivl_merges.proofs.sink.PlacesSink.push_over.Goals as goal
 
 pub returns-clause-list : goal.returns-clause-list

@@ -1,5 +1,5 @@
 use Rattle.std.proofs.Common.{map}
-use Rattle.ivl_merges.proofs.Places.{lays_by}
+use Rattle.ivl_walks.proofs.Places.{lays_by}
 use Rattle.ivl_merges.proofs.sink.PlacesSink.put_if.Goals as goal
 
 pub returns-clause-list : goal.returns-clause-list

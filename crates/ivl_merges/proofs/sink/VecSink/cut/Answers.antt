@@ -1,5 +1,5 @@
 use Rattle.std.proofs.Common.{arith}
-use Rattle.ivl_merges.proofs.Places.{vec_cut}
+use Rattle.ivl_walks.proofs.Places.{vec_cut}
 use Rattle.ivl_merges.proofs.sink.VecSink.cut.Goals as goal
 
 pub returns-clause-list : goal.returns-clause-list

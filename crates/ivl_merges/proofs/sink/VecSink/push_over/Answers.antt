@@ -1,6 +1,6 @@
 use Rattle.std.proofs.Common.{◌≡◌, ◌-◌, length, arith}
 use Rattle.std.specs.Int.{from_bool}
-use Rattle.ivl_merges.proofs.Places.{vec_over}
+use Rattle.ivl_walks.proofs.Places.{vec_over}
 use Rattle.ivl_merges.proofs.sink.VecSink.push_over.Goals as goal
 
 pub returns-clause-list : goal.returns-clause-list

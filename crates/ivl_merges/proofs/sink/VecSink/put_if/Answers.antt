@@ -1,6 +1,6 @@
 use Rattle.std.proofs.Common.{◌≡◌, length, arith}
 use Rattle.std.specs.Vec.{vec_len}
-use Rattle.ivl_merges.proofs.Places.{vec_put}
+use Rattle.ivl_walks.proofs.Places.{vec_put}
 use Rattle.ivl_merges.proofs.sink.VecSink.put_if.Goals as goal
 
 pub returns-clause-list : goal.returns-clause-list

@@ -2,8 +2,8 @@ use Rattle.std.proofs.Common.{◌∙◌, List, ℤ, ap, arith, refl, subst, sym}
 use Rattle.ivl_laws.specs.Runs.{Covers, IsRunsOf}
 use Rattle.ivl_laws.specs.Sets.{HasSome, Intersection, IsBetween, Union}
 use Rattle.std.specs.Prelude.{MatchOption}
-use Rattle.intervallum.specs.Edits.{widened}
-use Rattle.intervallum.specs.Neighbours.{IsRunWith}
+use Rattle.ivl_places.specs.Edits.{widened}
+use Rattle.ivl_places.specs.Neighbours.{IsRunWith}
 use Rattle.std.specs.Int.{int_min}
 use Rattle.ivl_laws.proofs.Orders.{min_number}
 use Rattle.ivl_paged.proofs.Counting.{err_is_not_ok}

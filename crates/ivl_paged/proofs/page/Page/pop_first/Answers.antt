@@ -2,7 +2,7 @@ use Rattle.std.proofs.Common.{◌≤ℤ◌, List, ℤ, subst, sym}
 use Rattle.std.specs.Prelude.{IfSome}
 use Rattle.ivl_laws.specs.Runs.{Covers, IsRunsOf}
 use Rattle.ivl_laws.specs.Sets.{HasSome, Only, Without}
-use Rattle.intervallum.specs.Neighbours.{IsLeast}
+use Rattle.ivl_places.specs.Neighbours.{IsLeast}
 use Rattle.ivl_paged.proofs.Longest.{kept_part, none_longer, without_popped}
 use Rattle.ivl_paged.proofs.page.Page.pop_first.Goals as goal
 

@@ -3,8 +3,8 @@ use Rattle.std.proofs.lemmas.Int.{ints}
 use Rattle.std.specs.Prelude.{MatchOption}
 use Rattle.ivl_laws.specs.Runs.{Covers, IsRunsOf}
 use Rattle.ivl_laws.specs.Sets.{IsBetween, IsSubset, Without}
-use Rattle.intervallum.specs.Edits.{widened}
-use Rattle.intervallum.specs.Neighbours.{IsRunWith}
+use Rattle.ivl_places.specs.Edits.{widened}
+use Rattle.ivl_places.specs.Neighbours.{IsRunWith}
 use Rattle.ivl_paged.proofs.Counting.{err_is_not_ok}
 use Rattle.ivl_paged.proofs.Heads.{least_is_kept}
 use Rattle.ivl_paged.proofs.Longest.{kept_part, none_longer}

@@ -1,7 +1,7 @@
 use Rattle.std.proofs.Common.{ℤ, List, subst}
 use Rattle.ivl_laws.specs.Runs.{Covers}
 use Rattle.ivl_paged.proofs.Shortest.{IsBestSoFar, shortest_by_fit}
-use Rattle.intervallum.specs.FirstFit.{FitsAt}
+use Rattle.ivl_places.specs.FirstFit.{FitsAt}
 use Rattle.ivl_paged.proofs.page.Page.shortest_run.Goals as goal
 
 pub returns-in_err-fit : goal.returns-in_err-fit

@@ -1,6 +1,6 @@
 use Rattle.std.proofs.Common.{◌<◌, List, ℤ, ap, arith, drop, length, subst, sym}
 use Rattle.ivl_laws.specs.Families.{set_at}
-use Rattle.intervallum.specs.Neighbours.{IsLeast}
+use Rattle.ivl_places.specs.Neighbours.{IsLeast}
 use Rattle.ivl_paged.proofs.Heads.{head_at}
 use Rattle.ivl_paged.proofs.Rests.{head_place, item_of_rest}
 use Rattle.ivl_paged.proofs.page_list.PageList.head.Goals as goal

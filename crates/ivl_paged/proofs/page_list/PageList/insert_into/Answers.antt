@@ -1,8 +1,8 @@
 use Rattle.std.proofs.Common.{⊎_elim, List, ℤ, ap, arith, length, set, subst, sym, drop, ◌+◌, ◌∙◌, rules, ◌≡◌, ◌↔◌, IsTrue}
 use Rattle.ivl_laws.specs.Sets.{HasSome, Intersection, IsBetween, Union}
 use Rattle.ivl_laws.specs.Runs.{Covers, IsRunsOf}
-use Rattle.intervallum.specs.Edits.{widened}
-use Rattle.intervallum.proofs.Windows.{one_more_at_most}
+use Rattle.ivl_places.specs.Edits.{widened}
+use Rattle.ivl_places.proofs.Windows.{one_more_at_most}
 use Rattle.ivl_paged.specs.Pages.{flattened}
 use Rattle.ivl_paged.proofs.Bounding.{bounded_grown, bounds_there, longest_bounded}
 use Rattle.ivl_paged.proofs.Counting.{err_is_not_ok, kept_after, lent_within}

@@ -2,7 +2,7 @@ use Rattle.std.proofs.Common.{◌<◌, ◌^◌, List, ℤ, ap, arith, set, subst
 use Rattle.std.proofs.lemmas.Int.{ints}
 use Rattle.ivl_laws.specs.Sets.{HasSome, Only, Without}
 use Rattle.ivl_laws.specs.Runs.{Covers, IsRunsOf}
-use Rattle.intervallum.specs.Neighbours.{IsLeast}
+use Rattle.ivl_places.specs.Neighbours.{IsLeast}
 use Rattle.ivl_paged.proofs.Bounding.{bounded_as, bounded_shrunk, bounds_there}
 use Rattle.ivl_paged.proofs.Counting.{kept_after, lent_within, no_more_runs}
 use Rattle.ivl_paged.proofs.Heads.{lent_page}

@@ -2,7 +2,7 @@ use Rattle.std.proofs.lemmas.List.{set-get_or}
 use Rattle.std.proofs.Common.{rules, ◌≡◌, ◌⊎◌, ◌<◌, ◌-◌, ◌^◌, ◌∙◌, List, ℤ, ap, arith, set, subst, sym, drop, ◌+◌}
 use Rattle.ivl_laws.specs.Sets.{HasSome, IsBetween, IsSubset, Without}
 use Rattle.ivl_laws.specs.Runs.{Covers, IsRunsOf}
-use Rattle.intervallum.specs.Edits.{widened}
+use Rattle.ivl_places.specs.Edits.{widened}
 use Rattle.ivl_paged.proofs.Bounding.{bounded_as, bounded_shrunk, bounds_there}
 use Rattle.ivl_paged.proofs.Counting.{err_is_not_ok, fits_after_split, kept_after, lent_within}
 use Rattle.ivl_paged.proofs.Heads.{lent_page}

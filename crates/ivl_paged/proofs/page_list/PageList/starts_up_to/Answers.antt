@@ -2,7 +2,7 @@ use Rattle.std.proofs.Common.{rules, ◌≡◌, ◌∙◌, ◌+◌, ◌-◌, ◌
 use Rattle.std.proofs.lemmas.Int.{ints}
 use Rattle.ivl_laws.specs.Families.{set_at}
 use Rattle.ivl_laws.proofs.Orders.{le_number, lt_number}
-use Rattle.intervallum.specs.Neighbours.{IsLeast}
+use Rattle.ivl_places.specs.Neighbours.{IsLeast}
 use Rattle.ivl_paged.proofs.Heads.{chosen_up_to, head_at, heads_length}
 use Rattle.ivl_paged.proofs.Paging.{search_begins, search_goes}
 use Rattle.ivl_paged.proofs.page_list.PageList.starts_up_to.Goals as goal

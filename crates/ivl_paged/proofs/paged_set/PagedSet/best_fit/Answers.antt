@@ -1,6 +1,6 @@
 use Rattle.std.proofs.Common.{ℤ, List, subst}
 use Rattle.ivl_laws.specs.Runs.{Covers}
-use Rattle.intervallum.specs.FirstFit.{FitsAt}
+use Rattle.ivl_places.specs.FirstFit.{FitsAt}
 use Rattle.ivl_paged.specs.Parts.{IsShortestRun}
 use Rattle.ivl_paged.proofs.Shortest.{fit_of_shortest}
 use Rattle.ivl_paged.proofs.paged_set.PagedSet.best_fit.Goals as goal

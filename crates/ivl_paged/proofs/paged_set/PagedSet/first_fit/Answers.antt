@@ -1,6 +1,6 @@
 use Rattle.std.proofs.Common.{ℤ, List, subst}
 use Rattle.ivl_laws.specs.Runs.{Covers}
-use Rattle.intervallum.proofs.FirstFit.{IsFitOf}
+use Rattle.ivl_places.proofs.FirstFit.{IsFitOf}
 use Rattle.ivl_paged.proofs.paged_set.PagedSet.first_fit.Goals as goal
 
 pub returns : goal.returns

@@ -1,8 +1,8 @@
 use Rattle.std.proofs.Common.{ℤ, List, None, subst, take}
 use Rattle.ivl_laws.specs.Sets.{AtLeast}
 use Rattle.ivl_laws.specs.Runs.{Covers}
-use Rattle.intervallum.specs.FirstFit.{IsFirstFit}
-use Rattle.intervallum.proofs.FirstFit.{IsFitOf}
+use Rattle.ivl_places.specs.FirstFit.{IsFirstFit}
+use Rattle.ivl_places.proofs.FirstFit.{IsFitOf}
 use Rattle.ivl_paged.specs.Pages.{StartsUpTo, flattened}
 use Rattle.ivl_paged.proofs.Fitting.{fit_from_above, fit_from_below}
 use Rattle.ivl_paged.proofs.paged_set.PagedSet.first_fit_from.Goals as goal

@@ -3,7 +3,7 @@ use Rattle.std.proofs.lemmas.Result.{IfOk-weaker}
 use Rattle.ivl_laws.specs.Sets.{IsBetween}
 use Rattle.ivl_laws.specs.Runs.{Covers, IsRunsOf}
 use Rattle.ivl_laws.proofs.SetLaws.{IsRunsOf-same}
-use Rattle.intervallum.specs.Windows.{OfRunsThatMeet}
+use Rattle.ivl_places.specs.Windows.{OfRunsThatMeet}
 use Rattle.ivl_paged.proofs.Meeting.{gaps_seen}
 use Rattle.ivl_paged.proofs.paged_set.PagedSet.gaps_within.Goals as goal
 

@@ -2,7 +2,7 @@ use Rattle.std.proofs.Common.{◌≡◌, ◌∙◌, ◌-◌, [], get_or, refl, s
 use Rattle.std.proofs.lemmas.List.{get_or_default}
 use Rattle.ivl_laws.specs.Sets.{HasSome}
 use Rattle.ivl_laws.specs.Runs.{Covers}
-use Rattle.intervallum.specs.Neighbours.{IsGreatest, IsLeast}
+use Rattle.ivl_places.specs.Neighbours.{IsGreatest, IsLeast}
 use Rattle.ivl_paged.proofs.Reading.{greatest_seen, hull_of_none, hull_seen, least_seen, none_seen, range_seen}
 use Rattle.ivl_paged.proofs.paged_set.PagedSet.hull.Goals as goal
 

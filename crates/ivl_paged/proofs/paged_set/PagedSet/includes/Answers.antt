@@ -2,7 +2,7 @@ use Rattle.ivl_laws.proofs.Adding.{untrue}
 use Rattle.ivl_laws.proofs.Intervals.{not_crossed}
 use Rattle.ivl_laws.proofs.Orders.{le_number}
 use Rattle.ivl_laws.specs.Runs.{Covers}
-use Rattle.intervallum.proofs.IntervalOperands.{included_in_run}
+use Rattle.ivl_places.proofs.IntervalOperands.{included_in_run}
 use Rattle.ivl_paged.proofs.paged_set.PagedSet.includes.Goals as goal
 
 pub returns-in-Some : goal.returns-in-Some

@@ -1,7 +1,7 @@
 use Rattle.std.proofs.Common.{List, ℤ, inl, subst, take_all}
 use Rattle.ivl_laws.specs.Sets.{HasSome, Intersection, IsBetween, Union}
 use Rattle.ivl_laws.specs.Runs.{Covers, IsRunsOf}
-use Rattle.intervallum.specs.Edits.{widened}
+use Rattle.ivl_places.specs.Edits.{widened}
 use Rattle.ivl_paged.proofs.InPlace.{added_next, all_there, none_added, touching_still}
 use Rattle.ivl_paged.proofs.Removing.{on_ok_holds}
 use Rattle.ivl_paged.proofs.paged_set.PagedSet.insert_each.Goals as goal

@@ -1,6 +1,6 @@
 use Rattle.ivl_laws.proofs.Adding.{untrue}
 use Rattle.ivl_laws.proofs.Intervals.{not_crossed}
-use Rattle.intervallum.proofs.Sweeping.{adds_nothing}
+use Rattle.ivl_images.proofs.Sweeping.{adds_nothing}
 use Rattle.ivl_paged.proofs.paged_set.PagedSet.insert_interval.Goals as goal
 
 pub add-requires : goal.add-requires

@@ -1,5 +1,5 @@
 use Rattle.ivl_laws.specs.Runs.{Covers}
-use Rattle.intervallum.proofs.MembersWithin.{of_many, open_between}
+use Rattle.ivl_places.proofs.MembersWithin.{of_many, open_between}
 use Rattle.ivl_paged.proofs.MembersInPages.{none_came, none_came_back, of_no_run, of_one_run}
 use Rattle.ivl_paged.proofs.paged_set.PagedSet.members_within.Goals as goal
 

@@ -1,7 +1,7 @@
 use Rattle.std.proofs.Common.{◌<◌, [], ℤ, List, arith, get_or, length, refl, subst, take}
 use Rattle.ivl_laws.specs.Sets.{AtLeast, HasNone}
 use Rattle.ivl_laws.specs.Runs.{Covers}
-use Rattle.intervallum.specs.Neighbours.{IsLeast}
+use Rattle.ivl_places.specs.Neighbours.{IsLeast}
 use Rattle.ivl_paged.specs.Pages.{StartsUpTo, flattened}
 use Rattle.ivl_paged.proofs.Reading.{next_seen_above, next_seen_below, no_next_seen}
 use Rattle.ivl_paged.proofs.paged_set.PagedSet.next_from.Goals as goal

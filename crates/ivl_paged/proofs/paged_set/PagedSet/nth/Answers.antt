@@ -4,7 +4,7 @@ use Rattle.std.proofs.lemmas.List.{get_or_default}
 use Rattle.ivl_laws.specs.Counts.{IsCountOf}
 use Rattle.ivl_laws.specs.Sets.{Below}
 use Rattle.ivl_laws.specs.Runs.{Covers, IsMaximal}
-use Rattle.intervallum.proofs.Ranks.{no_room}
+use Rattle.ivl_places.proofs.Ranks.{no_room}
 use Rattle.ivl_paged.specs.Pages.{flattened}
 use Rattle.ivl_paged.proofs.Reading.{counts_next_page, no_nth_seen, nth_seen}
 use Rattle.ivl_paged.specs.Sizes.{member_total}

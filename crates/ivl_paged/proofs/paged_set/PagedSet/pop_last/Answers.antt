@@ -2,7 +2,7 @@ use Rattle.std.proofs.Common.{ℤ, subst, sym}
 use Rattle.ivl_laws.specs.Sets.{IsBetween, IsSubset}
 use Rattle.ivl_laws.specs.Runs.{Covers}
 use Rattle.ivl_laws.proofs.Ranges.{none_is_nil}
-use Rattle.intervallum.specs.Edits.{widened}
+use Rattle.ivl_places.specs.Edits.{widened}
 use Rattle.ivl_paged.proofs.Removing.{greatest_is_cut}
 use Rattle.ivl_paged.proofs.paged_set.PagedSet.pop_last.Goals as goal
 

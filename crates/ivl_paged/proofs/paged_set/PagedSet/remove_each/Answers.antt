@@ -1,7 +1,7 @@
 use Rattle.std.proofs.Common.{◌≡◌, ◌+◌, ◌-◌, arith, drop, subst, sym}
 use Rattle.ivl_laws.specs.Sets.{IsBetween, IsSubset, Without}
 use Rattle.ivl_laws.specs.Runs.{Covers, IsRunsOf}
-use Rattle.intervallum.specs.Edits.{widened}
+use Rattle.ivl_places.specs.Edits.{widened}
 use Rattle.ivl_paged.proofs.InPlace.{all_there, cut_still, removed_next}
 use Rattle.ivl_paged.proofs.Removing.{on_ok_holds}
 use Rattle.ivl_paged.proofs.paged_set.PagedSet.remove_each.Goals as goal

@@ -2,7 +2,7 @@ use Rattle.std.proofs.Common.{ℤ, List, subst}
 use Rattle.ivl_laws.specs.Sets.{IsBetween}
 use Rattle.ivl_laws.specs.Runs.{Covers, IsRunsOf}
 use Rattle.ivl_laws.proofs.SetLaws.{IsRunsOf-same}
-use Rattle.intervallum.specs.Windows.{OfRunsThatMeet}
+use Rattle.ivl_places.specs.Windows.{OfRunsThatMeet}
 use Rattle.ivl_paged.proofs.Meeting.{inside_of_met, met_is_maximal, runs_in_whole, same_runs_met}
 use Rattle.ivl_paged.proofs.paged_set.PagedSet.runs_within.Goals as goal
 

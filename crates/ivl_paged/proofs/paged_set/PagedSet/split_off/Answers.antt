@@ -3,7 +3,7 @@ use Rattle.ivl_laws.specs.Sets.{AtLeast, IsBetween, SameMembers}
 use Rattle.ivl_laws.specs.Runs.{Covers}
 use Rattle.ivl_laws.proofs.Ranges.{IsRunListIn-runs}
 use Rattle.ivl_laws.proofs.SetLaws.{IsRunsOf-same}
-use Rattle.intervallum.proofs.Splitting.{cut_is_last, rest_is_below}
+use Rattle.ivl_places.proofs.Splitting.{cut_is_last, rest_is_below}
 use Rattle.ivl_paged.specs.Pages.{flattened}
 use Rattle.ivl_paged.proofs.paged_set.PagedSet.split_off.Goals as goal
 

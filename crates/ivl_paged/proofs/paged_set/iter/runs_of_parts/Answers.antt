@@ -1,7 +1,7 @@
 use Rattle.std.proofs.Common.{ℤ, List, subst}
 use Rattle.ivl_laws.specs.Sets.{HasSome, Intersection, IsBetween}
 use Rattle.ivl_laws.specs.Runs.{Covers, IsRunsOf}
-use Rattle.intervallum.specs.Windows.{OfRunsThatMeet}
+use Rattle.ivl_places.specs.Windows.{OfRunsThatMeet}
 use Rattle.ivl_paged.proofs.Meeting.{each_met, more_met, none_behind}
 use Rattle.ivl_paged.proofs.paged_set.iter.runs_of_parts.Goals as goal
 

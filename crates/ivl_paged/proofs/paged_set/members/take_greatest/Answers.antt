@@ -1,5 +1,5 @@
 use Rattle.std.proofs.Common.{arith}
-use Rattle.intervallum.proofs.Members.{greatest_apart}
+use Rattle.ivl_places.proofs.Members.{greatest_apart}
 use Rattle.ivl_paged.proofs.paged_set.members.take_greatest.Goals as goal
 
 pub returns : goal.returns

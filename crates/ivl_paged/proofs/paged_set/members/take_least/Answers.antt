@@ -1,5 +1,5 @@
 use Rattle.std.proofs.Common.{arith}
-use Rattle.intervallum.proofs.Members.{least_apart}
+use Rattle.ivl_places.proofs.Members.{least_apart}
 use Rattle.ivl_paged.proofs.paged_set.members.take_least.Goals as goal
 
 pub returns : goal.returns

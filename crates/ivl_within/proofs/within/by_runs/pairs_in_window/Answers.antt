@@ -1,5 +1,5 @@
 use Rattle.std.proofs.Common.{◌∙◌}
-use Rattle.intervallum.proofs.Images.{open_here_seen}
+use Rattle.ivl_images.proofs.Images.{open_here_seen}
 use Rattle.ivl_laws.proofs.Adding.{untrue}
 use Rattle.ivl_laws.proofs.Intervals.{not_crossed}
 use Rattle.ivl_within.proofs.within.by_runs.pairs_in_window.Goals as goal

@@ -1,5 +1,5 @@
 use Rattle.std.proofs.Common.{◌≡◌, ◌∙◌, ◌+◌, ℤ, List, subst, sym, take, take_all}
-use Rattle.intervallum.proofs.Images.{open_here_seen}
+use Rattle.ivl_images.proofs.Images.{open_here_seen}
 use Rattle.ivl_laws.specs.Sets.{Intersection, SameMembers}
 use Rattle.ivl_laws.specs.Runs.{Covers}
 use Rattle.ivl_laws.proofs.Adding.{untrue}

@@ -1,5 +1,5 @@
 use Rattle.std.proofs.Common.{◌∙◌, ◌+◌, ℤ, ap, arith}
-use Rattle.intervallum.proofs.Images.{open_here}
+use Rattle.ivl_images.proofs.Images.{open_here}
 use Rattle.ivl_laws.proofs.Orders.{le_number, max_number, not_le}
 use Rattle.ivl_within.proofs.Fronts.{front_at_none, front_begins, front_is, front_meets, front_met, front_stays, row_fits}
 use Rattle.ivl_within.proofs.within.fronts.front_at.Goals as goal

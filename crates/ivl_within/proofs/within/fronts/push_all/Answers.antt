@@ -1,4 +1,4 @@
-use Rattle.intervallum.proofs.Images.{open_here}
+use Rattle.ivl_images.proofs.Images.{open_here}
 use Rattle.ivl_laws.specs.Runs.{Covers}
 use Rattle.ivl_within.specs.Within.{SumsBy}
 use Rattle.ivl_within.proofs.Stretches.{all_runs, none_yet, run_added}

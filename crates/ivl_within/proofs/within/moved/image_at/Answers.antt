@@ -1,5 +1,5 @@
 use Rattle.std.proofs.Common.{arith}
-use Rattle.intervallum.proofs.Images.{open_here}
+use Rattle.ivl_images.proofs.Images.{open_here}
 use Rattle.ivl_within.proofs.Fronts.{row_fits}
 use Rattle.ivl_within.proofs.Moved.{count_of_other, image_of_other}
 use Rattle.ivl_within.proofs.within.moved.image_at.Goals as goal

@@ -1,5 +1,5 @@
 use Rattle.std.proofs.Common.{◌∙◌, ◌-◌, ◌++◌, List, ℤ, ap, drop, length, subst, sym, take}
-use Rattle.intervallum.proofs.Slices.{from_place}
+use Rattle.ivl_laws.proofs.Slices.{from_place}
 use Rattle.ivl_laws.specs.Sets.{Intersection, SameMembers, Union}
 use Rattle.ivl_laws.specs.Runs.{Covers, IsMaximal}
 use Rattle.ivl_laws.proofs.Places.{IsMaximal-drop}

@@ -1,7 +1,7 @@
 use Rattle.std.proofs.Common.{ℤ, List, ◌+◌, map, subst, take, take_all}
 use Rattle.ivl_laws.specs.Sets.{SameMembers, Union}
 use Rattle.ivl_laws.specs.Runs.{Covers}
-use Rattle.intervallum.proofs.Images.{open_here}
+use Rattle.ivl_images.proofs.Images.{open_here}
 use Rattle.ivl_within.specs.Within.{Clipped, pair_by}
 use Rattle.ivl_within.proofs.Clipping.{row_grows, whole_pushed, whole_window}
 use Rattle.ivl_within.proofs.Reaching.{row_has, row_is}

@@ -1,5 +1,5 @@
 use Rattle.std.proofs.Common.{◌+◌, take}
-use Rattle.intervallum.proofs.Images.{open_here}
+use Rattle.ivl_images.proofs.Images.{open_here}
 use Rattle.ivl_laws.specs.Arithmetic.{pairwise}
 use Rattle.ivl_laws.specs.Runs.{Covers}
 use Rattle.ivl_within.specs.Within.{SumsBy, pair_by}

@@ -1,7 +1,7 @@
 use Rattle.std.proofs.Common.{ℤ, ◌≤ℤ◌, sym, subst}
 use Rattle.ivl_laws.proofs.Places.{open_at}
 use Rattle.ivl_laws.proofs.Intervals.{some_is_not_crossed}
-use Rattle.intervallum.proofs.Finding.{least_of_first, some_has_length}
+use Rattle.ivl_places.proofs.Finding.{least_of_first, some_has_length}
 use Rattle.intervallum.proofs.interval_set.bounds.IntervalSetBounded.lower.Goals as goal
 
 pub lower-requires : goal.lower-requires

@@ -1,7 +1,7 @@
 use Rattle.std.proofs.Common.{◌-◌, ℤ, ◌≤ℤ◌, sym, subst, arith}
 use Rattle.ivl_laws.proofs.Places.{open_at}
 use Rattle.ivl_laws.proofs.Intervals.{some_is_not_crossed}
-use Rattle.intervallum.proofs.Finding.{greatest_of_last, some_has_length}
+use Rattle.ivl_places.proofs.Finding.{greatest_of_last, some_has_length}
 use Rattle.intervallum.proofs.interval_set.bounds.IntervalSetBounded.upper.Goals as goal
 
 pub upper-requires : goal.upper-requires

@@ -1,5 +1,5 @@
 use Rattle.std.proofs.Common.{arith}
-use Rattle.intervallum.proofs.Finding.{one_run_is_one, many_runs_are_not_one}
+use Rattle.ivl_places.proofs.Finding.{one_run_is_one, many_runs_are_not_one}
 use Rattle.intervallum.proofs.interval_set.bounds.IntervalSetIsSingleton.is_singleton.Goals as goal
 
 pub returns-then-len-ne1 : goal.returns-then-len-ne1

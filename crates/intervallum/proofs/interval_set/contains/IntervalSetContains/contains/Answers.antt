@@ -1,4 +1,4 @@
-use Rattle.intervallum.proofs.Finding.{found, not_found}
+use Rattle.ivl_places.proofs.Finding.{found, not_found}
 use Rattle.intervallum.proofs.interval_set.contains.IntervalSetContains.contains.Goals as goal
 
 pub returns-in-In : goal.returns-in-In

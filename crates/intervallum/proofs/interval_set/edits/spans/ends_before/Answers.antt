@@ -2,8 +2,8 @@ use Rattle.std.proofs.Common.{◌-◌, ℕ, suc, ◌≡◌, ℤ, ◌<ℤ◌, get
 use Rattle.std.proofs.lemmas.Int.{ints}
 use Rattle.std.proofs.lemmas.Option.{get_or_from_slice_get}
 use Rattle.ivl_laws.proofs.Orders.{lt_number}
-use Rattle.intervallum.specs.Places.{EndBelow}
-use Rattle.intervallum.proofs.Searching.{below_to}
+use Rattle.ivl_places.specs.Places.{EndBelow}
+use Rattle.ivl_places.proofs.Searching.{below_to}
 use Rattle.intervallum.proofs.interval_set.edits.spans.ends_before.Goals as goal
 
 pub returns-then-place-count-clause-below : goal.returns-then-place-count-clause-below

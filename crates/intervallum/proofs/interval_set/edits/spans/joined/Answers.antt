@@ -3,8 +3,8 @@ use Rattle.std.specs.Int.{int_max, int_min}
 use Rattle.ivl_laws.proofs.Intervals.{some_is_not_crossed}
 use Rattle.ivl_laws.proofs.Orders.{max_number, min_number}
 use Rattle.ivl_laws.proofs.Places.{open_at}
-use Rattle.ivl_merges.proofs.Unions.{both_ends}
-use Rattle.intervallum.proofs.Splicing.{joined_with_none, joined_with_some}
+use Rattle.ivl_walks.proofs.Unions.{both_ends}
+use Rattle.ivl_places.proofs.Splicing.{joined_with_none, joined_with_some}
 use Rattle.intervallum.proofs.interval_set.edits.spans.joined.Goals as goal
 
 both_starts : {a b m n : ℤ} → a ≡ m → b ≡ n → int_min a b ≡ int_min m n

@@ -1,8 +1,8 @@
 use Rattle.std.proofs.Common.{ℤ, List, length, ap, arith}
 use Rattle.std.proofs.lemmas.Int.{ints}
 use Rattle.ivl_laws.proofs.Orders.{le_number}
-use Rattle.intervallum.proofs.SpanEnds.{held_up_to, some_is_less}
-use Rattle.intervallum.proofs.Windows.{split_by_run}
+use Rattle.ivl_places.proofs.SpanEnds.{held_up_to, some_is_less}
+use Rattle.ivl_places.proofs.Windows.{split_by_run}
 use Rattle.intervallum.proofs.interval_set.edits.spans.last_from_run.Goals as goal
 
 pub overflow_add-result : goal.overflow_add-result

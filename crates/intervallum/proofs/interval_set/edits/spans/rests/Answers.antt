@@ -2,9 +2,9 @@ use Rattle.std.proofs.Common.{ℤ, ◌-◌, [], ◌∷◌, Option, subst, arith}
 use Rattle.ivl_laws.specs.Sets.{Above, Below, IsBetween}
 use Rattle.ivl_laws.specs.Runs.{IsRunsOf}
 use Rattle.ivl_laws.proofs.SetLaws.{IsRunsOf-same}
-use Rattle.ivl_merges.specs.HeldRun.{led_by}
-use Rattle.intervallum.proofs.Allocating.{around_split}
-use Rattle.intervallum.proofs.Splicing.{left_without}
+use Rattle.ivl_walks.specs.HeldRun.{led_by}
+use Rattle.ivl_places.proofs.Allocating.{around_split}
+use Rattle.ivl_places.proofs.Splicing.{left_without}
 use Rattle.intervallum.proofs.interval_set.edits.spans.rests.Goals as goal
 
 pub returns-clause-rest : goal.returns-clause-rest

@@ -1,9 +1,9 @@
 use Rattle.std.proofs.Common.{◌+◌, ◌≤◌, ℤ, length, List, take, subst, sym}
 use Rattle.ivl_laws.specs.Runs.{IsMaximal}
-use Rattle.intervallum.specs.Places.{EndBelow}
-use Rattle.intervallum.proofs.Finding.{EndBelow-more}
-use Rattle.intervallum.proofs.SpanEnds.{span_of_split}
-use Rattle.intervallum.proofs.Windows.{split_by_gap, split_by_run}
+use Rattle.ivl_places.specs.Places.{EndBelow}
+use Rattle.ivl_places.proofs.Finding.{EndBelow-more}
+use Rattle.ivl_places.proofs.SpanEnds.{span_of_split}
+use Rattle.ivl_places.proofs.Windows.{split_by_gap, split_by_run}
 use Rattle.intervallum.proofs.interval_set.edits.spans.span.Goals as goal
 
 pub last_from_run-requires-clause-below : goal.last_from_run-requires-clause-below

@@ -1,5 +1,5 @@
 use Rattle.std.proofs.Common.{ℤ, subst}
-use Rattle.intervallum.proofs.Touching.{IsAfter, IsBefore, IsSpan-beside}
+use Rattle.ivl_places.proofs.Touching.{IsAfter, IsBefore, IsSpan-beside}
 use Rattle.intervallum.proofs.interval_set.edits.spans.touched.Goals as goal
 
 pub returns : goal.returns

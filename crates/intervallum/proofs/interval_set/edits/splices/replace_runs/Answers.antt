@@ -1,5 +1,5 @@
 use Rattle.std.proofs.Common.{◌∷◌, drop, arith}
-use Rattle.intervallum.proofs.Splicing.{set_before}
+use Rattle.ivl_places.proofs.Splicing.{set_before}
 use Rattle.intervallum.proofs.interval_set.edits.splices.replace_runs.Goals as goal
 
 pub returns-in_ok-put_one-in-Some-Some-clause-ok : goal.returns-in_ok-put_one-in-Some-Some-clause-ok

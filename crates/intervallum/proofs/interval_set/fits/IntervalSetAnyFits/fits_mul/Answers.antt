@@ -1,5 +1,5 @@
 use Rattle.ivl_laws.specs.Runs.{Covers}
-use Rattle.intervallum.proofs.Fitting.{told, products_by_hulls}
+use Rattle.ivl_images.proofs.Fitting.{told, products_by_hulls}
 use Rattle.intervallum.proofs.interval_set.fits.IntervalSetAnyFits.fits_mul.Goals as goal
 
 pub returns : goal.returns

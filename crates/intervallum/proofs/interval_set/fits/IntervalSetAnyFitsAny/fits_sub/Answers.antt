@@ -1,6 +1,6 @@
 use Rattle.ivl_laws.specs.Sets.{Only}
 use Rattle.ivl_laws.specs.Runs.{Covers}
-use Rattle.intervallum.proofs.Fitting.{told, differences_by_hull}
+use Rattle.ivl_images.proofs.Fitting.{told, differences_by_hull}
 use Rattle.intervallum.proofs.interval_set.fits.IntervalSetAnyFitsAny.fits_sub.Goals as goal
 
 pub returns : goal.returns

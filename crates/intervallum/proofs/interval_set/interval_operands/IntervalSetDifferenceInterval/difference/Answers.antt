@@ -1,5 +1,5 @@
 use Rattle.std.proofs.Common.{ℤ, ◌+◌, ◌≤◌, List, length, subst}
-use Rattle.intervallum.proofs.IntervalOperands.{length_but_interval}
+use Rattle.ivl_places.proofs.IntervalOperands.{length_but_interval}
 use Rattle.intervallum.proofs.interval_set.interval_operands.IntervalSetDifferenceInterval.difference.Goals as goal
 
 pub returns-clause-runs_at_most : goal.returns-clause-runs_at_most

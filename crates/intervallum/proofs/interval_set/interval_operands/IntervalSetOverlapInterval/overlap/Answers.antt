@@ -1,6 +1,6 @@
 use Rattle.ivl_laws.specs.Runs.{Covers}
 use Rattle.ivl_laws.proofs.Orders.{le_number}
-use Rattle.intervallum.proofs.IntervalOperands.{overlaps_by_least}
+use Rattle.ivl_places.proofs.IntervalOperands.{overlaps_by_least}
 use Rattle.intervallum.proofs.interval_set.interval_operands.IntervalSetOverlapInterval.overlap.Goals as goal
 
 pub returns-in-Some : goal.returns-in-Some

@@ -1,5 +1,5 @@
 use Rattle.std.proofs.Common.{ℤ, ◌+◌, ◌≤◌, List, length, subst, arith}
-use Rattle.intervallum.proofs.Windows.{one_more_at_most}
+use Rattle.ivl_places.proofs.Windows.{one_more_at_most}
 use Rattle.intervallum.proofs.interval_set.interval_operands.IntervalSetUnionInterval.union.Goals as goal
 
 pub returns-clause-runs_at_most : goal.returns-clause-runs_at_most

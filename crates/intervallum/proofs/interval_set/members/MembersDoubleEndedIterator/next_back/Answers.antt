@@ -1,9 +1,9 @@
 use Rattle.std.proofs.Common.{◌++◌, ◌≤◌, ◌≤ℤ◌, ℤ, List, length, refl, subst}
 use Rattle.std.specs.List.{AllByRecursion}
 use Rattle.ivl_laws.specs.Bounds.{width_of}
-use Rattle.intervallum.specs.Members.{members_of, numbers_of}
-use Rattle.intervallum.proofs.Members.{IsReadyBack, back_as_is, back_by_run, back_by_first, filled_before, last_of_part, goes_by_last}
-use Rattle.intervallum.proofs.MemberCounts.{fewer_by_last}
+use Rattle.ivl_places.specs.Members.{members_of, numbers_of}
+use Rattle.ivl_places.proofs.Members.{IsReadyBack, back_as_is, back_by_run, back_by_first, filled_before, last_of_part, goes_by_last}
+use Rattle.ivl_places.proofs.MemberCounts.{fewer_by_last}
 use Rattle.intervallum.proofs.interval_set.members.MembersDoubleEndedIterator.next_back.Goals.{then-is_empty, in-Some, in-None, else-is_empty}
 use Rattle.intervallum.proofs.interval_set.members.MembersDoubleEndedIterator.next_back.Goals as goal
 

@@ -1,9 +1,9 @@
 use Rattle.std.proofs.Common.{◌++◌, ◌≤◌, ◌≤ℤ◌, ℤ, List, length, refl, subst}
 use Rattle.std.specs.List.{AllByRecursion}
 use Rattle.ivl_laws.specs.Bounds.{width_of}
-use Rattle.intervallum.specs.Members.{members_of, numbers_of}
-use Rattle.intervallum.proofs.Members.{IsReady, ready_as_is, ready_by_run, ready_by_last, first_of_part, filled_after, goes_by_first}
-use Rattle.intervallum.proofs.MemberCounts.{fewer_by_first}
+use Rattle.ivl_places.specs.Members.{members_of, numbers_of}
+use Rattle.ivl_places.proofs.Members.{IsReady, ready_as_is, ready_by_run, ready_by_last, first_of_part, filled_after, goes_by_first}
+use Rattle.ivl_places.proofs.MemberCounts.{fewer_by_first}
 use Rattle.intervallum.proofs.interval_set.members.MembersIterator.next.Goals.{then-is_empty, in-Some, in-None, else-is_empty}
 use Rattle.intervallum.proofs.interval_set.members.MembersIterator.next.Goals as goal
 

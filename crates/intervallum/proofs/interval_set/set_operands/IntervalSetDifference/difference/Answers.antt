@@ -1,5 +1,5 @@
 use Rattle.std.proofs.lemmas.Result.{IfOk-weaker}
-use Rattle.ivl_merges.proofs.RunBounds.{length_of_without}
+use Rattle.ivl_walks.proofs.RunBounds.{length_of_without}
 use Rattle.intervallum.proofs.interval_set.set_operands.IntervalSetDifference.difference.Goals as goal
 
 pub returns-then-is_far_shorter-clause-runs_at_most : goal.returns-then-is_far_shorter-clause-runs_at_most

@@ -1,7 +1,7 @@
 use Rattle.ivl_laws.specs.Sets.{Intersection, HasSome}
 use Rattle.std.proofs.Common.{◌↔◌, IsTrue, ℤ, List, subst}
 use Rattle.ivl_laws.specs.Runs.{Covers}
-use Rattle.intervallum.proofs.Singles.{not_some}
+use Rattle.ivl_places.proofs.Singles.{not_some}
 use Rattle.intervallum.proofs.interval_set.set_operands.IntervalSetDisjoint.is_disjoint.Goals as goal
 
 pub returns : goal.returns

@@ -1,5 +1,5 @@
 use Rattle.std.proofs.Common.{ℤ, ◌+◌, ◌≤◌, List, length, subst}
-use Rattle.intervallum.proofs.Singles.{length_but_one}
+use Rattle.ivl_places.proofs.Singles.{length_but_one}
 use Rattle.intervallum.proofs.interval_set.value_operands.IntervalSetDifference.difference.Goals as goal
 
 pub returns-clause-runs_at_most : goal.returns-clause-runs_at_most

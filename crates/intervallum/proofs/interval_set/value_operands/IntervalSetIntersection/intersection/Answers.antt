@@ -1,5 +1,5 @@
 use Rattle.ivl_laws.proofs.Adding.{untrue}
-use Rattle.intervallum.proofs.Singles.{common_with_member, common_with_other}
+use Rattle.ivl_places.proofs.Singles.{common_with_member, common_with_other}
 use Rattle.intervallum.proofs.interval_set.value_operands.IntervalSetIntersection.intersection.Goals as goal
 
 pub new-requires-clause-in_range : goal.new-requires-clause-in_range

@@ -1,5 +1,5 @@
 use Rattle.ivl_laws.proofs.Adding.{untrue}
-use Rattle.intervallum.proofs.Singles.{alone_with_member, alone_with_other}
+use Rattle.ivl_places.proofs.Singles.{alone_with_member, alone_with_other}
 use Rattle.intervallum.proofs.interval_set.value_operands.IntervalSetSymmetricDifference.symmetric_difference.Goals as goal
 
 pub returns-then-contains-clause-members : goal.returns-then-contains-clause-members

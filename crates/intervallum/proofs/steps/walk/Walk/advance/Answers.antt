@@ -1,5 +1,5 @@
 use Rattle.std.proofs.Common.{◌≡◌, ◌∙◌, ◌+◌, ℤ, List, ◌∷◌, drop, ap, sym, subst, arith}
-use Rattle.ivl_merges.proofs.Walking.{is_more, left_more}
+use Rattle.ivl_walks.proofs.Walking.{is_more, left_more}
 use Rattle.intervallum.proofs.steps.walk.Walk.advance.Goals as goal
 
 pub returns-clause-left : goal.returns-clause-left

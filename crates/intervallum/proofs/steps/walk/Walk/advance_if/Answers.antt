@@ -1,6 +1,6 @@
 use Rattle.std.proofs.Common.{◌∙◌, ◌+◌, ℤ, List, drop, ap, sym, subst, arith}
-use Rattle.ivl_merges.specs.HeldRun.{IsTakenIf}
-use Rattle.ivl_merges.proofs.Walking.{place_if, taken_if}
+use Rattle.ivl_walks.specs.HeldRun.{IsTakenIf}
+use Rattle.ivl_walks.proofs.Walking.{place_if, taken_if}
 use Rattle.intervallum.proofs.steps.walk.Walk.advance_if.Goals as goal
 
 pub returns-clause-taken : goal.returns-clause-taken

@@ -2,7 +2,7 @@ use Rattle.std.proofs.Common.{arith, ◌≡◌, ℤ, List, slice_get, ap, subst}
 use Rattle.std.proofs.lemmas.Grind.{common_steps}
 use Rattle.ivl_laws.specs.Runs.{IsRunListIn}
 use Rattle.ivl_laws.proofs.Ranges.{IsRunListIn-drop}
-use Rattle.intervallum.proofs.Finding.{first_is_filled}
+use Rattle.ivl_places.proofs.Finding.{first_is_filled}
 use Rattle.intervallum.proofs.steps.walk.Walk.peek.Goals as goal
 
 pub returns-clause-runs : goal.returns-clause-runs

@@ -1,7 +1,7 @@
 use Rattle.std.proofs.Common.{◌++◌, ◌≤ℤ◌, ℤ, refl, subst, sym}
 use Rattle.std.specs.List.{AllByRecursion}
-use Rattle.intervallum.specs.Members.{members_of, numbers_of}
-use Rattle.intervallum.proofs.Members.{IsReadyBack, back_as_is, back_by_run, filled_before, last_of_part, goes_by_last}
+use Rattle.ivl_places.specs.Members.{members_of, numbers_of}
+use Rattle.ivl_places.proofs.Members.{IsReadyBack, back_as_is, back_by_run, filled_before, last_of_part, goes_by_last}
 use Rattle.ivl_paged.proofs.MembersInPages.{back_at_end}
 use Rattle.ivl_paged.proofs.paged_set.members.MembersDoubleEndedIterator.next_back.Goals.{then-is_empty, in-Some, in-None, else-is_empty}
 use Rattle.ivl_paged.proofs.paged_set.members.MembersDoubleEndedIterator.next_back.Goals as goal

@@ -1,6 +1,6 @@
 use Rattle.std.proofs.Common.{◌++◌, refl}
-use Rattle.intervallum.specs.Members.{members_of, numbers_of}
-use Rattle.intervallum.proofs.Members.{IsReady, ready_as_is, ready_by_run, first_of_part, goes_by_first}
+use Rattle.ivl_places.specs.Members.{members_of, numbers_of}
+use Rattle.ivl_places.proofs.Members.{IsReady, ready_as_is, ready_by_run, first_of_part, goes_by_first}
 use Rattle.ivl_paged.proofs.MembersInPages.{ready_at_end}
 use Rattle.ivl_paged.proofs.paged_set.members.MembersIterator.next.Goals.{then-is_empty, in-Some, in-None, else-is_empty}
 use Rattle.ivl_paged.proofs.paged_set.members.MembersIterator.next.Goals as goal

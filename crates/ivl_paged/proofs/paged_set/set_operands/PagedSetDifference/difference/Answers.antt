@@ -1,5 +1,5 @@
 use Rattle.std.proofs.lemmas.Result.{IfOk-weaker}
-use Rattle.ivl_merges.proofs.RunBounds.{length_of_without}
+use Rattle.ivl_walks.proofs.RunBounds.{length_of_without}
 use Rattle.ivl_paged.proofs.paged_set.set_operands.PagedSetDifference.difference.Goals as goal
 
 pub returns-clause-runs_at_most : goal.returns-clause-runs_at_most
