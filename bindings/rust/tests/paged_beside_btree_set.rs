@@ -154,7 +154,7 @@ fn assert_same(set: &Set, model: &Model) {
         (set.to_set(), set.to_string(), format!("{set:?}")),
         (list.clone(), list.to_string(), format!("{list:?}"))
     );
-    assert!(*set == Set::from(&list) && *set == model.iter().collect() && *set == set.clone());
+    assert!(*set == Set::from(&list) && *set == model.iter().collect::<Set>() && *set == set.clone());
 }
 
 #[test]
