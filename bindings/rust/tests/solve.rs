@@ -149,7 +149,7 @@ fn limits_end_a_search() {
     assert_eq!(model.count(Limits::default()), (5_040, End::All));
     assert_eq!(model.count(Limits::default().nodes(100)).1, End::Nodes);
     assert_eq!(model.minimize(seven[0], Limits::default().nodes(0)).into_solution(), None);
-    model.restrict(seven[3], &PagedSet::from(10..=20));
+    model.restrict(seven[3], PagedSet::from(10..=20));
     assert_eq!(model.count(Limits::default()), (0, End::All));
 }
 
