@@ -136,7 +136,8 @@ fn watched() -> Map<Copied> {
 
 #[test]
 fn edits_copy_a_value_only_where_they_split_its_entry() {
-    let edits: [(&str, usize, fn(&mut Map<Copied>)); 17] = [
+    type Edit = fn(&mut Map<Copied>);
+    let edits: [(&str, usize, Edit); 17] = [
         ("insert in a gap", 0, |map| map.insert(6..=7, Copied(-1))),
         ("insert at the end", 0, |map| map.insert(99_999, Copied(-1))),
         ("insert that joins", 0, |map| map.insert(5..=9, Copied(0))),
