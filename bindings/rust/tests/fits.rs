@@ -17,7 +17,8 @@ fn beside_a_list<T: Width + Debug>(least: i128, count: impl Fn(u8) -> T::Output)
     for bits in (0..1u32 << 14).step_by(101) {
         let (numbers, set) = sets::<T>(least, bits);
         let paged = PagedSet::from(&set);
-        assert!(set == paged && paged == set);
+        assert_eq!(set, paged);
+        assert_eq!(paged, set);
         let has = |first: i128, len: u8| (first..first + i128::from(len)).all(|number| numbers.contains(&number));
         for len in 1..5 {
             let last = numbers.iter().rev().find(|first| has(**first, len)).map(|first| range(*first, len));

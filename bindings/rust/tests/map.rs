@@ -338,7 +338,7 @@ fn calls_of_many_entries() {
     assert_eq!((map.first(), map.last()), (Some((0..=4, &0)), Some((19_990..=19_994, &1_999))));
     assert_eq!((map.next_from(10_005), map.previous_to(10_009)), (map.get_run(10_010), map.get_run(10_000)));
     assert_eq!(
-        (map.iter().len(), map.values().rev().next(), map.clone().into_iter().len()),
+        (map.iter().len(), map.values().next_back(), map.clone().into_iter().len()),
         (2_000, Some(&1_999), 2_000)
     );
     assert_eq!(

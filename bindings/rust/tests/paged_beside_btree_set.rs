@@ -154,7 +154,8 @@ fn assert_same(set: &Set, model: &Model) {
         (set.to_set(), set.to_string(), format!("{set:?}")),
         (list.clone(), list.to_string(), format!("{list:?}"))
     );
-    assert!(*set == Set::from(&list) && *set == model.iter().collect::<Set>() && *set == set.clone());
+    let (of_list, of_members): (Set, Set) = (Set::from(&list), model.iter().collect());
+    assert_eq!((set, set, set), (&of_list, &of_members, &set.clone()));
 }
 
 #[test]
