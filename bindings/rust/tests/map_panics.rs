@@ -1,5 +1,6 @@
 //! Code of a value, or a function that an edit asks, panics at each place of each edit in turn: then a map is still the list of its
-//! longest entries, and the numbers that the edit did not name keep their values.
+//! longest entries. Numbers that the edit did not name keep their values, but for those of an entry that was to be joined with it,
+//! which may have none.
 use intervallum::{IntervalMap, IntervalSet};
 use std::cell::Cell;
 use std::ops::RangeInclusive;
@@ -75,9 +76,14 @@ fn at_each_step(entries: &[(RangeInclusive<u8>, u32)], range: RangeInclusive<u8>
         let told = panic::catch_unwind(AssertUnwindSafe(|| edit(&mut map)));
         LEFT.set(usize::MAX);
         assert!(are_longest_entries(&map), "{entries:?}, {range:?}, step {steps}: {told:?}, {map:?}");
+        let touches = |run: &RangeInclusive<u8>| *run.start() <= *range.end() + 1 && *range.start() <= *run.end() + 1;
         for number in (0..=LAST).filter(|number| !range.contains(number)) {
             let (now, then) = (map.get(number).map(|value| value.0), before[usize::from(number)]);
-            assert_eq!(now, then, "{entries:?}, {range:?}, step {steps}: {told:?}, {map:?} at {number}");
+            let is_joined = told.is_err() && entries.iter().any(|(run, _)| run.contains(&number) && touches(run));
+            assert!(
+                now == then || is_joined && now.is_none(),
+                "{entries:?}, {range:?}, step {steps}: {told:?}, {map:?} at {number}"
+            );
         }
         if told.is_ok() {
             return steps - 1;
@@ -134,13 +140,17 @@ fn edits_by_a_function_and_of_more_entries() {
 #[test]
 fn an_entry_that_grows_over_others() {
     let entries = [(7..=9, 2), (15..=19, 1)];
-    let told = |map: &IntervalMap<u8, Touchy>| map.iter().map(|(run, value)| (run, value.0)).collect::<Vec<_>>();
-    let mut map: Map = entries.iter().map(|(run, value)| (run.clone(), Touchy(*value))).collect();
-    // the comparison with 1, then the drop of the value in whose place the longer entry comes
-    LEFT.set(3);
-    let fault = panic::catch_unwind(AssertUnwindSafe(|| map.insert(9..=14, Touchy(1)))).unwrap_err();
-    LEFT.set(usize::MAX);
-    assert_eq!(fault.downcast_ref::<&str>(), Some(&"drop"));
-    assert_eq!(told(&map), [(7..=8, 2), (15..=19, 1)]);
-    assert_eq!(map.gaps_within(7..=19), IntervalSet::from([9..=14]));
+    let mut map = Map::new();
+    for steps in 1.. {
+        map = entries.iter().map(|(run, value)| (run.clone(), Touchy(*value))).collect();
+        LEFT.set(steps);
+        let told = panic::catch_unwind(AssertUnwindSafe(|| map.insert(9..=14, Touchy(1))));
+        LEFT.set(usize::MAX);
+        if told.unwrap_err().downcast_ref::<&str>() == Some(&"drop") {
+            break;
+        }
+    }
+    // the entry that takes the place of another stands there when that one's value is dropped
+    assert_eq!(map.iter().map(|(run, value)| (run, value.0)).collect::<Vec<_>>(), [(7..=8, 2), (9..=19, 1)]);
+    assert_eq!(map.gaps_within(7..=19), IntervalSet::empty());
 }

@@ -61,7 +61,7 @@ pub unsafe fn copied_if_same<B: Width>(it: *const Set<B>, other: *const Set<B>) 
 /// # Safety
 ///
 /// As of [`reads`].
-pub unsafe fn other_than<'a, B: Width>(copied: &'a Option<Set<B>>, other: *const Set<B>) -> Result<&'a Set<B>, i64> {
+pub unsafe fn other_than<B: Width>(copied: &Option<Set<B>>, other: *const Set<B>) -> Result<&Set<B>, i64> {
     copied.as_ref().map_or_else(|| unsafe { reads(other) }, Ok)
 }
 

@@ -40,7 +40,8 @@ impl<T: Width, V: Clone + Eq> IntervalMap<T, V> {
         self.0.get_or_insert_with(|| Proved::empty(Global))
     }
 
-    /// Makes an edit that changes the numbers of an interval alone. If it panics, all other numbers keep their values.
+    /// Makes an edit that changes the numbers of an interval alone. If it panics, all other numbers keep their values,
+    /// but for those of entries that it was to join.
     pub(super) fn edit<R>(&mut self, interval: Interval<T>, edit: impl FnOnce(&mut Proved<T, V>) -> R) -> R {
         let edit_of = EditOf { map: self, interval };
         let made = edit(edit_of.map.edited());
