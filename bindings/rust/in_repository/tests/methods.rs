@@ -32,7 +32,7 @@ fn methods_of(path: &Path) -> Vec<Method> {
             let name = name.split(['(', '<']).next().unwrap().to_owned();
             let file = path.file_name().unwrap().to_string_lossy().into_owned();
             found.push(Method { file, name, before: std::mem::take(&mut before), line: line.to_owned() });
-        } else if line.starts_with("///") || line.starts_with("#[") || before.last().is_some_and(is_open) {
+        } else if line.starts_with("///") || line.starts_with("#[") || before.last().is_some_and(|line| is_open(line)) {
             before.push(line.to_owned());
         } else {
             before.clear();
@@ -42,7 +42,7 @@ fn methods_of(path: &Path) -> Vec<Method> {
 }
 
 /// Whether an attribute goes on in the next line.
-fn is_open(line: &String) -> bool {
+fn is_open(line: &str) -> bool {
     !line.starts_with("///") && !line.ends_with(']')
 }
 
