@@ -25,6 +25,7 @@ impl Constraint {
     /// assert!(rt; !Constraint { x: 0, y: 1, z: 0 }.distinct());
     /// ```
     pub fn distinct(&self) -> bool
+        // True exactly when `x`, `y` and `z` are three different variables.
         ensures { IsTrue result ↔ AreDistinct self.now }
     {
         self.x != self.y && self.x != self.z && self.y != self.z
@@ -51,6 +52,7 @@ impl Constraint {
     /// assert!(rt; Constraint { x: 0, y: 1, z: 2 }.first_unknown(3) == None);
     /// ```
     pub fn first_unknown(&self, count: usize) -> Option<usize>
+        // The result is the first of `x`, `y` and `z`, in this order, that is not below `count`, or `None` if all are.
         ensures { result ≡ first_unknown count self.now }
     {
         if self.x >= count {

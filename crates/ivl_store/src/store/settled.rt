@@ -24,6 +24,7 @@ impl Lost {
     /// assert!(rt; Lost { x: false, y: true, z: false }.any());
     /// ```
     pub fn any(self) -> bool
+        // True exactly when a member was lost at one of the three.
         ensures { result ≡ any_lost self }
     {
         self.x || self.y || self.z
