@@ -37,6 +37,8 @@ impl Rule {
     /// assert!(rt; before.places() == Constraint { x: 4, y: 2, z: 2 });
     /// ```
     pub fn places(&self) -> Constraint
+        // The result is the variables of the rule, in order; a rule of two variables has its second at both `y` and
+        // `z`.
         ensures { result ≡ places_of self.now }
     {
         match self {
@@ -54,6 +56,7 @@ impl Rule {
     /// assert!(rt; !Rule::Differs { x: 1, y: 1, by: 5 }.is_over_different());
     /// ```
     pub fn is_over_different(&self) -> bool
+        // True exactly when the rule names each of its variables once.
         ensures { IsTrue result ↔ AreDifferent self.now }
     {
         match self {
@@ -72,6 +75,7 @@ impl Rule {
     /// assert!(rt; !Rule::AtMost { x: 0, y: 1, by: 5 }.needs_single_numbers());
     /// ```
     pub fn needs_single_numbers(&self) -> bool
+        // True exactly for a `Differs`.
         ensures { result ≡ needs_singles self.now }
     {
         match self {
@@ -88,6 +92,7 @@ impl Rule {
     /// assert!(rt; Rule::Shifted { x: 0, y: 3, by: 1 }.names(3));
     /// ```
     pub fn names(&self, variable: usize) -> bool
+        // True exactly when the rule names the variable.
         ensures { IsTrue result ↔ NamesOf self.now variable }
     {
         let c = self.places();
@@ -101,6 +106,7 @@ impl Rule {
     /// assert!(rt; rule.first_unknown(3) == Some(3) && rule.first_unknown(4) == None);
     /// ```
     pub fn first_unknown(&self, count: usize) -> Option<usize>
+        // The result is the first variable of the rule, in order, that is not below `count`, or `None` if all are.
         ensures first { result ≡ first_unknown_in count (places_of self.now) }
         ensures present { result ≡ None → AllPresent count (places_of self.now) }
     {

@@ -51,6 +51,9 @@ type LeftOfTwo<B> = (Option<IntervalSet<B>>, Option<IntervalSet<B>>);
 pub fn narrow<B: Width>(domains: &mut [IntervalSet<B>], rule: &Rule) -> Result<bool, AllocError>
     requires different { AreDifferent rule.now }
     requires present { AllPresent (length domains.old) (places_of rule.now) }
+    // If it fails, the domains are unchanged. On success, a domain that the rule names keeps exactly the members that
+    // are in a point of the old domains which satisfies the rule, and the others stay. True exactly when some domain
+    // lost a member.
     ensures refused { OnErr result (domains.new ≡ domains.old) }
     ensures kept_count { OnOk result (length domains.new ≡ length domains.old) }
     ensures lost { IfOk result (λ b. IsTrue b ↔ LostMember (set_at domains.old) (set_at domains.new)) }
@@ -85,6 +88,7 @@ pub fn narrow<B: Width>(domains: &mut [IntervalSet<B>], rule: &Rule) -> Result<b
 pub fn takes_nothing<B: Width>(domains: &[IntervalSet<B>], rule: &Rule) -> bool
     requires different { AreDifferent rule.now }
     requires present { AllPresent (length domains.now) (places_of rule.now) }
+    // True only if each member of a domain that the rule names is in a point of the domains which satisfies the rule.
     ensures { result ≡ true → SupportsAll rule.now (set_at domains.now) }
 {
     match rule {
@@ -189,6 +193,9 @@ pub fn narrowed_at_places<B: Width>(
 ) -> Result<LeftOfThree<B>, AllocError>
     requires different { AreDifferent rule.now }
     requires present { AllPresent (length domains.now) (places_of rule.now) }
+    // On success, what is left of the domains at the places of the rule: of each the members that are in a point of the
+    // domains which satisfies the rule, or `None` exactly when all are. A rule of two variables has `None` at its third
+    // place.
     ensures { IfOk result (λ r. AreLeftAtPlaces B.whole (places_of rule.now) (HasPointAt rule.now (set_at domains.now)) domains.now r.0 r.1 r.2) }
 {
     let mut spares = Spares::new(domains[rule.places().x].allocator());
@@ -218,6 +225,9 @@ pub fn narrowed_at_places_in<B: Width>(
 ) -> Result<LeftOfThree<B>, AllocError>
     requires different { AreDifferent rule.now }
     requires present { AllPresent (length domains.now) (places_of rule.now) }
+    // On success, what is left of the domains at the places of the rule: of each the members that are in a point of the
+    // domains which satisfies the rule, or `None` exactly when all are. A rule of two variables has `None` at its third
+    // place.
     ensures { IfOk result (λ r. AreLeftAtPlaces B.whole (places_of rule.now) (HasPointAt rule.now (set_at domains.now)) domains.now r.0 r.1 r.2) }
 {
     match rule {
@@ -253,6 +263,7 @@ pub fn narrowed_at_places_in<B: Width>(
 pub fn lone_loss<B: Width>(domains: &[IntervalSet<B>], rule: &Rule) -> Option<(usize, B)>
     requires different { AreDifferent rule.now }
     requires present { AllPresent (length domains.now) (places_of rule.now) }
+    // Some: the rule is a `Differs`, and narrowing by it takes this number from this variable, and no other member.
     ensures one { IfSome result (λ taken. TakesOne rule.now (set_at domains.now) taken.0 (B.value taken.1)) }
     ensures differs { IfSome result (λ _. needs_singles rule.now ≡ true) }
 {
