@@ -248,7 +248,7 @@ impl<B: Width> IntervalSet<B> {
         self.replace(start, end, below, above)
     }
 
-    /// Removes all members and keeps the capacity. Does not allocate.
+    /// Removes all members and keeps the capacity. `O(1)`. Does not allocate.
     ///
     /// ```
     /// let mut a = IntervalSet::new(alloc, 1, 5)?;
