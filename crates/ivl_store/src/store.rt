@@ -97,7 +97,8 @@ impl<B: Width> Store<B> {
         }
     }
 
-    /// Makes room for so many more variables: adding them reallocates nothing.
+    /// Makes room for so many more variables: adding them reallocates nothing. Linear in the variables
+    /// where memory is allocated, else `O(1)`.
     ///
     /// # Errors
     ///

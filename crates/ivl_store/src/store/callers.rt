@@ -33,7 +33,8 @@ fn is_distinct<B: Width>(post: &Post<B>) -> bool
 
 impl<B: Width> Store<B> {
     /// Posts all as [`Store::post_all`] does, without its condition: returns `None`, and leaves the
-    /// store unchanged, if a constraint among them has a variable twice.
+    /// store unchanged, if a constraint among them has a variable twice. Costs what `post_all` costs,
+    /// and a pass over the posts.
     ///
     /// # Errors
     ///

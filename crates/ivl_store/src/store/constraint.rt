@@ -18,7 +18,8 @@ pub struct Constraint {
 }
 
 impl Constraint {
-    /// Returns true exactly when `x`, `y` and `z` are three different variables.
+    /// Returns true exactly when `x`, `y` and `z` are three different variables. `O(1)`, does not
+    /// allocate.
     ///
     /// ```
     /// assert!(rt; Constraint { x: 0, y: 1, z: 2 }.distinct());
@@ -45,7 +46,8 @@ impl Constraint {
         variable == self.x || variable == self.y || variable == self.z
     }
 
-    /// Returns the first of `x`, `y` and `z` that is not below `count`, or `None` if all are.
+    /// Returns the first of `x`, `y` and `z` that is not below `count`, or `None` if all are. `O(1)`,
+    /// does not allocate.
     ///
     /// ```
     /// assert!(rt; Constraint { x: 0, y: 5, z: 7 }.first_unknown(5) == Some(5));

@@ -87,8 +87,8 @@ pub fn narrowed_by_sum<B: Width>(
     narrowed_by_sum_in(x, y, z, &mut spares)
 }
 
-/// Returns what [`narrowed_by_sum`] returns. A set that is made by words, or that is a single run, is made in the memory
-/// of a spare one, as long as there is one.
+/// Returns what [`narrowed_by_sum`] returns, at the same cost. A set that is made by words, or that is a single run, is
+/// made in the memory of a spare one, as long as there is one.
 ///
 /// # Errors
 ///

@@ -146,8 +146,8 @@ impl<B: Width> Store<B> {
     /// constraint narrows any further; if each has three variables, the domains are the greatest
     /// ones in which every member is supported, whatever the order of the list.
     ///
-    /// Costs what its narrowings cost, and a pass over the constraints for each domain that
-    /// changes. Reserves one flag per constraint. A constraint of three different variables whose
+    /// Costs what its narrowings cost, and a pass over the constraints for each round and for each
+    /// domain that changes. Reserves one flag per constraint. A constraint of three different variables whose
     /// domains did not change since it narrowed them is skipped in `O(1)`.
     ///
     /// # Errors

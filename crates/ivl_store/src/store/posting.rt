@@ -26,6 +26,9 @@ impl<B: Width> Store<B> {
     /// all cuts, in which every member is supported by each constraint. They do not depend on the
     /// order of the posts, and each reply depends only on the posts up to its own.
     ///
+    /// Costs the cuts and the narrowings, and a pass over the constraints so far for each round of
+    /// narrowings and for each domain that changes.
+    ///
     /// The caller must ensure that each constraint has three different variables. Check with
     /// [`Constraint::distinct`], or [`all_distinct`](super::callers::all_distinct) for a list.
     ///

@@ -18,7 +18,7 @@ pub struct Lost {
 }
 
 impl Lost {
-    /// Returns true exactly when a member was lost at one of the three.
+    /// Returns true exactly when a member was lost at one of the three. `O(1)`.
     ///
     /// ```
     /// assert!(rt; Lost { x: false, y: true, z: false }.any());
