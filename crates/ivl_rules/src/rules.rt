@@ -30,7 +30,8 @@ pub enum Rule {
 }
 
 impl Rule {
-    /// Returns the variables of the rule, in order. A rule of two variables has its second at both `y` and `z`.
+    /// Returns the variables of the rule, in order. A rule of two variables has its second at both `y` and `z`. `O(1)`,
+    /// does not allocate.
     ///
     /// ```
     /// let before = Rule::AtMost { x: 4, y: 2, by: 0 };
@@ -49,7 +50,7 @@ impl Rule {
         }
     }
 
-    /// Returns true exactly when the rule names each of its variables once.
+    /// Returns true exactly when the rule names each of its variables once. `O(1)`, does not allocate.
     ///
     /// ```
     /// assert!(rt; Rule::Differs { x: 0, y: 1, by: 0 }.is_over_different());
@@ -68,7 +69,7 @@ impl Rule {
     }
 
     /// Returns true exactly for a rule that takes members only for a variable whose domain is a single number or
-    /// empty: `Differs`.
+    /// empty: `Differs`. `O(1)`, does not allocate.
     ///
     /// ```
     /// assert!(rt; Rule::Differs { x: 0, y: 1, by: 5 }.needs_single_numbers());
@@ -86,7 +87,7 @@ impl Rule {
         }
     }
 
-    /// Returns true exactly when the rule names the variable.
+    /// Returns true exactly when the rule names the variable. `O(1)`, does not allocate.
     ///
     /// ```
     /// assert!(rt; Rule::Shifted { x: 0, y: 3, by: 1 }.names(3));
@@ -99,7 +100,8 @@ impl Rule {
         variable == c.x || variable == c.y || variable == c.z
     }
 
-    /// Returns the first variable of the rule that is not below `count`, or `None` if all are.
+    /// Returns the first variable of the rule that is not below `count`, or `None` if all are. `O(1)`, does not
+    /// allocate.
     ///
     /// ```
     /// let rule = Rule::Shifted { x: 0, y: 3, by: 1 };
