@@ -76,7 +76,7 @@ pub trait JsonForm: Sized {
     /// Two values are equal.
     ghost same: { Self → Self → Type 0 };
 
-    /// Returns the JSON value of this interval or set.
+    /// Returns the JSON value of this interval or set. `O(1)`, or `O(n)` for a set of `n` runs.
     ///
     /// # Errors
     ///
@@ -91,7 +91,7 @@ pub trait JsonForm: Sized {
         ensures written { IfOk result (λ v. view v ≡ json self.now) }
         ensures reads_back { reads (json self.now) self.now };
 
-    /// Reads a JSON value, which is unchanged.
+    /// Reads a JSON value, which is unchanged. `O(1)`, or `O(k log k)` for a set of `k` items.
     ///
     /// # Errors
     ///
