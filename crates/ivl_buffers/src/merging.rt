@@ -12,7 +12,7 @@ use crate::pair::Pair;
 use ivl_merges::merges;
 use ivl_merges::sink::Places;
 
-/// Writes the members of both run lists.
+/// Writes the members of both run lists. `O(n + m)`.
 pub fn intersection<R: Pair>(a: &[R], b: &[R], out: &mut [R]) -> usize
     requires first { IsRunListIn R.Bound.whole (map R.pair a.now) }
     requires second { IsRunListIn R.Bound.whole (map R.pair b.now) }
@@ -28,7 +28,7 @@ pub fn intersection<R: Pair>(a: &[R], b: &[R], out: &mut [R]) -> usize
     made.count()
 }
 
-/// Writes the members of the first run list that are not in the second.
+/// Writes the members of the first run list that are not in the second. `O(n + m)`.
 pub fn difference<R: Pair>(a: &[R], b: &[R], out: &mut [R]) -> usize
     requires first { IsRunListIn R.Bound.whole (map R.pair a.now) }
     requires second { IsRunListIn R.Bound.whole (map R.pair b.now) }
@@ -44,7 +44,7 @@ pub fn difference<R: Pair>(a: &[R], b: &[R], out: &mut [R]) -> usize
     made.count()
 }
 
-/// Writes the numbers of the range that are in no run of the list.
+/// Writes the numbers of the range that are in no run of the list. `O(n)`.
 pub fn complement<R: Pair>(runs: &[R], out: &mut [R]) -> usize
     requires runs { IsRunListIn R.Bound.whole (map R.pair runs.now) }
     requires counted { length runs.now < 2 ^ 62 }
@@ -58,7 +58,7 @@ pub fn complement<R: Pair>(runs: &[R], out: &mut [R]) -> usize
     made.count()
 }
 
-/// Writes the members of either run list.
+/// Writes the members of either run list. `O(n + m)`.
 pub fn union<R: Pair>(a: &[R], b: &[R], out: &mut [R]) -> usize
     requires first { IsRunListIn R.Bound.whole (map R.pair a.now) }
     requires second { IsRunListIn R.Bound.whole (map R.pair b.now) }
@@ -74,7 +74,7 @@ pub fn union<R: Pair>(a: &[R], b: &[R], out: &mut [R]) -> usize
     made.count()
 }
 
-/// Writes the members of exactly one of the two run lists.
+/// Writes the members of exactly one of the two run lists. `O(n + m)`.
 pub fn symmetric_difference<R: Pair>(a: &[R], b: &[R], out: &mut [R]) -> usize
     requires first { IsRunListIn R.Bound.whole (map R.pair a.now) }
     requires second { IsRunListIn R.Bound.whole (map R.pair b.now) }
