@@ -21,7 +21,7 @@ use std::hint::select_unpredictable;
 ///
 /// The caller must ensure that both lists are runs of sets in the range, from the left, with at least one
 /// number missing between neighbours, and that the sink is empty and has room for as many runs as the
-/// two lists have. `O(n + m)` runs, of which it adds at most `n + m`. Does not allocate.
+/// two lists have. `O(n + m)`, and adds at most `n + m` runs. Does not allocate.
 ///
 /// ```
 /// let (a, b) = ([Interval::new(1, 5)], [Interval::new(4, 9)]);
@@ -154,7 +154,7 @@ pub fn pair_at<R: Pair>(runs: &[R], i: usize) -> Option<R>
 ///
 /// The caller must ensure that both lists are runs of sets in the range, from the left, with at least one
 /// number missing between neighbours, and that the sink is empty and has room for as many runs as the
-/// two lists have. `O(n + m)` runs, of which it adds at most `n + m`. Does not allocate.
+/// two lists have. `O(n + m)`, and adds at most `n + m` runs. Does not allocate.
 ///
 /// ```
 /// let (a, b) = ([Interval::new(1, 5)], [Interval::new(4, 9)]);
@@ -192,7 +192,7 @@ pub fn intersection<R: Pair, S: Sink<R>>(a: &[R], b: &[R], out: &mut S)
 ///
 /// The caller must ensure that both lists are runs of sets in the range, from the left, with at least one
 /// number missing between neighbours, and that the sink is empty and has room for as many runs as the
-/// two lists have. `O(n + m)` runs, of which it adds at most `n + m`. Does not allocate.
+/// two lists have. `O(n + m)`, and adds at most `n + m` runs. Does not allocate.
 ///
 /// ```
 /// let (a, b) = ([Interval::new(1, 5)], [Interval::new(4, 9)]);
@@ -272,7 +272,7 @@ pub fn complement<R: Pair, S: Sink<R>>(runs: &[R], out: &mut S)
 ///
 /// The caller must ensure that both lists are runs of sets in the range, from the left, with at least one
 /// number missing between neighbours, and that the sink is empty and has room for as many runs as the
-/// two lists have. `O(n + m)` runs, of which it adds at most `n + m`. Does not allocate.
+/// two lists have. `O(n + m)`, and adds at most `n + m` runs. Does not allocate.
 ///
 /// ```
 /// let (a, b) = ([Interval::new(1, 5)], [Interval::new(4, 9)]);

@@ -340,8 +340,8 @@ pub fn least<B: Width>(
 
 /// Returns a solution in which a variable has its greatest number, as [`least`] does one with its
 /// least: no solution gives it a greater one. Searches greater numbers first, of every variable, and
-/// so visits as many nodes as [`least`] does where all numbers have the other sign. Costs what
-/// [`least`] costs there.
+/// so visits as many nodes as [`least`] does where all numbers have the other sign. Costs as much as
+/// that.
 ///
 /// The caller must ensure that each constraint has three different variables. Check with
 /// [`Constraint::distinct`], or [`all_distinct`] for a list.

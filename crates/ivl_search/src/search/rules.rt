@@ -291,8 +291,8 @@ pub fn least<B: Width>(
 
 /// Returns a solution in which a variable has its greatest number, as [`least`] does one with its
 /// least: no solution gives it a greater one. Searches greater numbers first, of every variable, and
-/// so visits as many nodes as [`least`] does where all numbers have the other sign. Costs what
-/// [`least`] costs there.
+/// so visits as many nodes as [`least`] does where all numbers have the other sign. Costs as much as
+/// that.
 ///
 /// The caller must ensure that each rule names each of its variables once. Check with
 /// [`Rule::is_over_different`], or [`all_different`] for a list.
