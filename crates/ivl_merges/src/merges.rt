@@ -138,7 +138,7 @@ fn take_first<R: Pair>(a: &[R], i: &mut usize, b: &[R], j: &mut usize) -> Option
     }
 }
 
-/// Returns the pair at a place, if there is one. `O(1)`. Does not allocate.
+/// Returns the pair at index `i`, if there is one. `O(1)`. Does not allocate.
 ///
 /// ```
 /// assert!(rt; merges::pair_at(&[Interval::new(1, 5)], 0) == Some(Interval::new(1, 5)));

@@ -54,7 +54,7 @@ pub trait Sink<R: Pair> {
         ensures count { count self.new ≤ count self.old + 1 }
         ensures room { room self.new ≡ room self.old };
 
-    /// Writes a run at a place, the last one or the next, if it `is_filled`: the list ends there then.
+    /// Writes a run at the index `place`, the last one or the next, if it `is_filled`: the list ends there then.
     /// What stands after it has to be dropped by `cut`. `O(1)`.
     fn put_if(&mut self, place: usize, is_filled: bool, run: R)
         requires { place < room self.old }
@@ -107,10 +107,10 @@ impl<R: Pair> Sink<R> for Vec<R> {
     }
 }
 
-/// The first places of a slice, as many as there are, and the number of all runs.
+/// A list that stands in the first elements of a slice, as far as it has room, and the number of all runs.
 ///
 /// ```
-/// // both runs are counted, and the one that has a place is written
+/// // both runs are counted, and the one that has room is written
 /// let mut buffer = [Interval::new(0u8, 0)];
 /// let mut places = Places::new(&mut buffer);
 /// merges::complement(&[Interval::new(4, 9)], &mut places);
@@ -128,8 +128,8 @@ pub struct Places<'a, R: Pair> {
 impl<'a, R: Pair> Places<'a, R> {
     /// Returns an empty list. `O(1)`.
     pub fn new(out: &'a mut [R]) -> Places<'a, R>
-        // The slice is the one that was lent, as it is, with no run counted; `last` is what stands at its first place,
-        // if there is one.
+        // The slice is the one that was lent, as it is, with no run counted; `last` is its first element, if there is
+        // one.
         ensures same { result.out.ghost_name ≡ out.entry.ghost_name }
         ensures now { result.out.now ≡ out.old }
         ensures count { result.count ≡ 0 }
