@@ -46,7 +46,7 @@ pub enum JsonFault {
     /// An allocation failed. Only a set's `from_value` allocates.
     #[error("memory")]
     Memory,
-    /// The item of a set at this place, counted from 0, is the first that is not an interval.
+    /// The item of a set at this index is the first that is not an interval.
     #[error("item {0}: {1}")]
     At(usize, ItemFault),
 }

@@ -46,7 +46,7 @@ use std::alloc::{AllocError, Global};
 ///    `18446744073709551616` and `"1"` are not. It must also be in the range of `B`, even if the
 ///    two cross: as bounds of `u8`, `[255,0]` is refused.
 ///
-/// The items of a set are read from the left. [`At`](JsonFault::At) has the place, counted from 0,
+/// The items of a set are read from the left. [`At`](JsonFault::At) has the index, counted from 0,
 /// and the fault of the first that is refused. No value is both read and refused, and nothing is
 /// read in part.
 ///
