@@ -8,7 +8,7 @@ use thiserror::Error;
 
 /// The constraint that variables `x` and `y` add to variable `z`.
 ///
-/// A variable may stand in two or three places. Only [`Store::post_all`](super::Store::post_all)
+/// A variable may be named two or three times. Only [`Store::post_all`](super::Store::post_all)
 /// requires three different variables; check with [`distinct`](Constraint::distinct).
 #[derive(Clone, Copy, Debug, PartialEq, Eq)]
 pub struct Constraint {

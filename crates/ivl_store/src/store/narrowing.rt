@@ -21,7 +21,7 @@ impl<B: Width> Store<B> {
     /// of both, all over the domains before the call. Returns true exactly when some domain lost a
     /// member.
     ///
-    /// A variable that stands in two places takes the rule of its last. For each domain looks for the
+    /// For a variable that is named twice the last of these holds. For each domain looks for the
     /// sums or differences of the other two in it, at the cost of
     /// [`results_in_set`](ivl_within::within::results_in_set); `O(1)` if all three are single runs. A
     /// domain that keeps its members is not written.
@@ -46,8 +46,8 @@ impl<B: Width> Store<B> {
         ensures refused { OnErr result (self.new ≡ self.old) }
 
         // On success, `x` keeps its members that are a member of `z` less one of `y`, `y` those that are a member of
-        // `z` less one of `x`, and `z` those that are a sum of both, all by the old domains; a variable in two places
-        // has the rule of its last, and the other domains stay. True exactly when some domain lost a member.
+        // `z` less one of `x`, and `z` those that are a sum of both, all by the old domains; for a variable that is
+        // named twice the last of these holds, and the other domains stay. True exactly when some domain lost a member.
         ensures kept_count { length self.new ≡ length self.old }
         ensures narrowed { OnOk result ((i : ℕ) (v : ℤ) → set_at self.new i v ↔ Narrowed constraint.now (set_at self.old) i v) }
         ensures lost { IfOk result (λ b. IsTrue b ↔ LostMember (set_at self.old) (set_at self.new)) }

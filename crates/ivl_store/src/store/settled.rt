@@ -8,8 +8,8 @@ ghost use Rattle.ivl_store.specs.Solutions.{AreDistinct};
 use super::Constraint;
 use std::alloc::{AllocError, Global};
 
-/// Whether a member was lost at x, at y and at z; a variable in two places has the flag of its
-/// last.
+/// Whether a member was lost at x, at y and at z; a variable that is named twice has its flag at the
+/// last of these.
 #[derive(Clone, Copy)]
 pub struct Lost {
     pub x: bool,
