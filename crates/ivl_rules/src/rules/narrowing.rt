@@ -171,8 +171,8 @@ fn put<B: Width>(domains: &mut [IntervalSet<B>], i: usize, left: Option<Interval
     }
 }
 
-/// Returns what narrowing by a rule leaves of the domains at its places, with `None` in place of one that loses no member.
-/// Costs what [`narrow`] costs.
+/// Returns what narrowing by a rule leaves of the domains of its variables, in the order of [`Rule::places`], with `None`
+/// for one that loses no member. Costs what [`narrow`] costs.
 ///
 /// The caller must ensure that the rule names each of its variables once, and no variable without a domain. Check with
 /// [`Rule::is_over_different`] and [`Rule::first_unknown`].
@@ -195,9 +195,9 @@ pub fn narrowed_at_places<B: Width>(
 ) -> Result<LeftOfThree<B>, AllocError>
     requires different { AreDifferent rule.now }
     requires present { AllPresent (length domains.now) (places_of rule.now) }
-    // On success, what is left of the domains at the places of the rule: of each the members that are in a point of the
-    // domains which satisfies the rule, or `None` exactly when all are. A rule of two variables has `None` at its third
-    // place.
+    // On success, what is left of the domains of the rule's variables, in their order: of each the members that are in
+    // a point of the domains which satisfies the rule, or `None` exactly when all are. A rule of two variables has
+    // `None` as its third.
     ensures { IfOk result (λ r. AreLeftAtPlaces B.whole (places_of rule.now) (HasPointAt rule.now (set_at domains.now)) domains.now r.0 r.1 r.2) }
 {
     let mut spares = Spares::new(domains[rule.places().x].allocator());
@@ -227,9 +227,9 @@ pub fn narrowed_at_places_in<B: Width>(
 ) -> Result<LeftOfThree<B>, AllocError>
     requires different { AreDifferent rule.now }
     requires present { AllPresent (length domains.now) (places_of rule.now) }
-    // On success, what is left of the domains at the places of the rule: of each the members that are in a point of the
-    // domains which satisfies the rule, or `None` exactly when all are. A rule of two variables has `None` at its third
-    // place.
+    // On success, what is left of the domains of the rule's variables, in their order: of each the members that are in
+    // a point of the domains which satisfies the rule, or `None` exactly when all are. A rule of two variables has
+    // `None` as its third.
     ensures { IfOk result (λ r. AreLeftAtPlaces B.whole (places_of rule.now) (HasPointAt rule.now (set_at domains.now)) domains.now r.0 r.1 r.2) }
 {
     match rule {
