@@ -171,8 +171,8 @@ fn put<B: Width>(domains: &mut [IntervalSet<B>], i: usize, left: Option<Interval
     }
 }
 
-/// Returns what narrowing by a rule leaves of the domains of its variables, in the order of [`Rule::places`], with `None`
-/// for one that loses no member. Costs what [`narrow`] costs.
+/// Returns what narrowing by a rule leaves of the domains of its variables, in the order of [`Rule::places`], with
+/// `None` for one that loses no member. Costs what [`narrow`] costs.
 ///
 /// The caller must ensure that the rule names each of its variables once, and no variable without a domain. Check with
 /// [`Rule::is_over_different`] and [`Rule::first_unknown`].
