@@ -33,7 +33,7 @@ type LeftOfTwo<B> = (Option<IntervalSet<B>>, Option<IntervalSet<B>>);
 ///
 /// Costs for an `AtMost` or a `Differs` a look at the ends of its domains, or a look-up where one is a single number,
 /// and a copy of what is left of one that loses a member; for a `Shifted` a look-up of each run of one domain in the
-/// other, and both made anew where one is lost; for a `Sum` what
+/// other, and an intersection for one that loses a member; for a `Sum` what
 /// [`narrowed_by_sum`](ivl_store::store::narrowed_sets::narrowed_by_sum) costs. A domain that keeps its members is not
 /// written, and no rule of two variables allocates where none is lost.
 ///

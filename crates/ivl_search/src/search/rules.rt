@@ -63,7 +63,7 @@ pub fn solutions<B: Width>(
     // The fault names the first index, in list order, without a domain, exactly when there is one.
     ensures unknown { (i : ℕ) → (result ≡ Err (SearchFault.Variable i)) ↔ (first_unknown_of_rules (length domains.now) rules.now ≡ Some i) }
 
-    // On success, each point is a solution: it has a number of each domain, in order, and satisfies each rule. No point
+    // On success, each point is a solution: it has a member of each domain, in order, and satisfies each rule. No point
     // is there twice. If the search ended with `All`, every solution is there.
     ensures sound { IfOk result (λ found. All (SolvesRules rules.now domains.now) (map (λ point. map B.value point.items) found.points.items)) }
     ensures once { IfOk result (λ found. EachOnce (map (λ point. map B.value point.items) found.points.items)) }
@@ -119,7 +119,7 @@ pub fn try_solutions<B: Width>(
     ensures none { IfOk result (λ o. IsNone o ↔ (¬ (All AreDifferent rules.now))) }
     ensures unknown { (i : ℕ) → (result ≡ Err (SearchFault.Variable i)) ↔ (All AreDifferent rules.now × (first_unknown_of_rules (length domains.now) rules.now ≡ Some i)) }
 
-    // Some: each point is a solution: it has a number of each domain, in order, and satisfies each rule. No point is
+    // Some: each point is a solution: it has a member of each domain, in order, and satisfies each rule. No point is
     // there twice. If the search ended with `All`, every solution is there.
     ensures sound { IfOk result (λ o. IfSome o (λ found. All (SolvesRules rules.now domains.now) (map (λ point. map B.value point.items) found.points.items))) }
     ensures once { IfOk result (λ o. IfSome o (λ found. EachOnce (map (λ point. map B.value point.items) found.points.items))) }
@@ -190,7 +190,7 @@ pub fn count<B: Width>(
     ensures unknown { (i : ℕ) → (result ≡ Err (SearchFault.Variable i)) ↔ (first_unknown_of_rules (length domains.now) rules.now ≡ Some i) }
 
     // On success, so many different points are solutions, and if the search ended with `All`, there is no other. A
-    // solution has a number of each domain, in order, and satisfies each rule.
+    // solution has a member of each domain, in order, and satisfies each rule.
     ensures counted { IfOk result (λ r. (points : List (List ℤ)) × (length points ≡ r.0) × Finds (SolvesRules rules.now domains.now) points r.1) }
 
     // The count is at most `limits.solutions`, exactly that if the search ended with `Solutions`, and at most
@@ -269,7 +269,7 @@ pub fn least<B: Width>(
     // exactly when there is one.
     ensures unknown { (i : ℕ) → (result ≡ Err (SearchFault.Variable i)) ↔ (first_unknown_or_rules variable (length domains.now) rules.now ≡ Some i) }
 
-    // On success, the point, if there is one, is a solution: it has a number of each domain, in order, and satisfies
+    // On success, the point, if there is one, is a solution: it has a member of each domain, in order, and satisfies
     // each rule. If the search ended with `All`, no solution gives the variable a smaller number, and without a point
     // there is no solution.
     ensures sound { IfOk result (λ best. IfSome best.point (λ point. SolvesRules rules.now domains.now (map B.value point.items))) }
@@ -323,7 +323,7 @@ pub fn greatest<B: Width>(
     // exactly when there is one.
     ensures unknown { (i : ℕ) → (result ≡ Err (SearchFault.Variable i)) ↔ (first_unknown_or_rules variable (length domains.now) rules.now ≡ Some i) }
 
-    // On success, the point, if there is one, is a solution: it has a number of each domain, in order, and satisfies
+    // On success, the point, if there is one, is a solution: it has a member of each domain, in order, and satisfies
     // each rule. If the search ended with `All`, no solution gives the variable a greater number, and without a point
     // there is no solution.
     ensures sound { IfOk result (λ best. IfSome best.point (λ point. SolvesRules rules.now domains.now (map B.value point.items))) }
