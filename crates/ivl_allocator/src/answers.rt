@@ -23,7 +23,6 @@ use std::io::Write;
 pub fn all_free(alloc: Global, first: u64, last: u64) -> Result<PagedSet<u64>, AllocError>
     requires in_order { first ≤ last }
     requires fits { last < u64.MAX }
-    // On success, the free numbers are exactly those from `first` to `last`, in one run.
     ensures { IfOk result (λ L. L ≡ (pos first, pos last) ∷ []) }
 {
     let all = IntervalSet::new(alloc, first, last)?;
@@ -42,14 +41,9 @@ pub fn take<W: Write>(
     words: &str,
     writer: &mut W,
 ) -> io::Result<()>
-    // On success, the answer is written behind the others: the lowest so many free numbers in a row, which are free no
-    // longer, or `none` if there are not so many in a row; or an error, if the words are not one count from 1 to
-    // `most`. Without such a run the same numbers are free as before.
     ensures answer { OnOk result ((text : List ℕ)
         × Takes most (asked_count most (words_between words.now)) free.old text free.new
         × Appends (W.contents writer.old) (W.contents writer.new) text) }
-
-    // Whatever is returned, no number becomes free.
     ensures left { IsSubset (Covers free.new) (Covers free.old) }
 {
     let Some(count) = count_from(words, most) else {
@@ -79,14 +73,9 @@ pub fn give<W: Write>(
     writer: &mut W,
 ) -> io::Result<()>
     requires { last < u64.MAX }
-    // On success, the answer is written behind the others: `ok`, and the numbers are free too; or why not, and the same
-    // numbers are free as before: some of them were free, memory ran out, or the words are not two numbers from `first`
-    // to `last` in order.
     ensures answer { OnOk result ((text : List ℕ)
         × Gives name.now first last (given_of first last (words_between words.now)) free.old text free.new
         × Appends (W.contents writer.old) (W.contents writer.new) text) }
-
-    // Whatever is returned, free numbers that were all from `first` to `last` still are.
     ensures within { IsFreeSet first last free.old → IsFreeSet first last free.new }
 {
     let Some(given) = given_from(words, first, last) else {
@@ -117,7 +106,6 @@ fn are_taken(free: &PagedSet<u64>, numbers: &Interval<u64>) -> bool
 /// Writes a run as `[l..u]`. The caller must ensure that its bounds are in order.
 pub fn write_run<W: Write>(writer: &mut W, run: &Interval<u64>) -> io::Result<()>
     requires { run.now.0 ≤ℤ run.now.1 }
-    // On success, the text of the run is written behind the others, as a line.
     ensures { OnOk result (Appends (W.contents writer.old) (W.contents writer.new) (with_newline (run_text run.now))) }
 {
     run.in_whole();
