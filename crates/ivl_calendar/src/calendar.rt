@@ -36,6 +36,7 @@ impl Model for Calendar {
 impl Calendar {
     /// Returns a calendar without rooms. Does not allocate.
     pub fn new(alloc: Global) -> Calendar
+        // There are no rooms.
         ensures { result ≡ [] }
     {
         Calendar {
@@ -46,6 +47,7 @@ impl Calendar {
 
     /// Returns the room with this name, or `None` if there is no such room. `O(log n)` of `n` rooms.
     pub fn room(&self, name: &str) -> Option<&Room>
+        // The result is the room with this name, or `None` if there is none.
         ensures { option_copied result ≡ busy_of self.now name.now }
     {
         self.rooms.get(name)
@@ -59,6 +61,8 @@ impl Calendar {
     /// Fails only if allocation fails. Nothing is added after an error.
     pub fn add(&mut self, name: &str) -> Result<(), AllocError>
         requires { busy_of self.old name.now ≡ None }
+        // On success, there is one more room, which is free on all days; the others stay. If it fails, nothing is
+        // changed.
         ensures ok { OnOk result (IsAdded name.now self.old self.new) }
         ensures err { OnErr result (self.new ≡ self.old) }
     {
@@ -83,6 +87,9 @@ impl Calendar {
         requires order { days.0 ≤ℤ days.1 }
         requires first { IsEpochDay days.0 }
         requires last { IsEpochDay days.1 }
+        // Some: the room is known, and true exactly when it was free on all of these days, which are then booked, for
+        // the name or without one; after false nothing is changed. `None`: there is no such room, and nothing is
+        // changed. If it fails, the room is known, and nothing is changed.
         ensures known { IfOk result (λ o. IfSome o (λ done. (room : Bookings) × (busy_of self.old name.now ≡ Some room)
             × Books done name.now room days (option_map (λ it. it.now) who.entry) self.old self.new)) }
         ensures unknown { IfOk result (λ o. IfNone o ((busy_of self.old name.now ≡ None) × (self.new ≡ self.old))) }
@@ -99,6 +106,7 @@ impl Calendar {
 
     /// Returns the days of a window on which all rooms are free. Fails only if allocation fails.
     pub fn free_within(&self, window: Interval<i32>) -> Result<IntervalSet<i32>, AllocError>
+        // On success, the members are exactly the days of the window on which no room is booked.
         ensures { IfOk result (λ L. IsRunsOf L (IsFreeInAll self.now window)) }
     {
         free_in_all(self.alloc, &self.rooms, window)
@@ -106,6 +114,8 @@ impl Calendar {
 
     /// Writes the days that are booked for a name, as a line. Looks at each booking with a name. Does not allocate.
     pub fn write_days_of<W: Write>(&self, writer: &mut W, who: &str) -> io::Result<()>
+        // On success, the days of each room that are booked for the name, or `none`, are written behind the others, as
+        // a line.
         ensures { OnOk result ((text : List ℕ) × IsOfText who.now self.now text
             × Appends (W.contents writer.old) (W.contents writer.new) (with_newline text)) }
     {

@@ -46,6 +46,7 @@ impl Model for Room {
 impl Room {
     /// Returns a room that is free on all days. Does not allocate.
     pub fn new(alloc: Global) -> Room
+        // The room is free on all days.
         ensures { result ≡ ([], []) }
     {
         Room {
@@ -65,6 +66,8 @@ impl Room {
         days: u32,
     ) -> Result<Option<Interval<i32>>, AllocError>
         requires { 0 < days }
+        // On success, the lowest so many days in a row of the window on which the room is free, or `None` if there are
+        // none.
         ensures { IfOk result (λ o. MatchOption o
             ((v : ℤ) → ¬ (FitsAt days (Without (IsBetween window) (IsBusy self.now)) v))
             (IsFirstFit days (Without (IsBetween window) (IsBusy self.now)))) }
@@ -86,6 +89,8 @@ impl Room {
         requires order { days.0 ≤ℤ days.1 }
         requires first { IsEpochDay days.0 }
         requires last { IsEpochDay days.1 }
+        // True exactly when the room was free on all of these days, which are then booked, for the name or without one.
+        // After false, or an error, nothing is changed.
         ensures booked { IfOk result (λ done. IsTrue done → IsBookedFor days (option_map (λ name. name.now) who.entry) self.old self.new) }
         ensures unless_busy { IfOk result (λ done. IsTrue done ↔ HasNone (Intersection (IsBusy self.old) (IsBetween days))) }
         ensures refused { IfOk result (λ done. ¬ (IsTrue done) → (self.new ≡ self.old)) }
@@ -125,6 +130,8 @@ impl Room {
     /// `O(log n)` for `n` bookings with a name. Does not allocate.
     pub fn first_named(&self, days: &Interval<i32>) -> Option<(Interval<i32>, &str)>
         requires { days.now.0 ≤ℤ days.now.1 }
+        // The result is the longest run of days that are booked for the name of the first of these days that has one,
+        // with that name, or `None` if none has one. Each of its days is a date.
         ensures first { MatchOption result
             (HasNone (Intersection (IsBetween days.now) (HasValue (IsFor self.now))))
             (λ met. IsFirstRunOf bytes_eq (Intersection (IsBetween days.now) (HasValue (IsFor self.now))) (IsFor self.now) (met.0, met.1.now)) }
@@ -143,6 +150,7 @@ impl Room {
     /// Returns the name for which the room is booked on a day, or `None` if there is none. `O(log n)` for `n` bookings
     /// with a name. Does not allocate.
     pub fn name_on(&self, day: i32) -> Option<&str>
+        // The result is the name for which the day is booked, or `None` if it is booked for none.
         ensures { MatchOption result ((who : List ℕ) → ¬ (IsFor self.now day who)) (λ name. IsFor self.now day name.now) }
     {
         match self.named.get(&day) {
@@ -154,6 +162,7 @@ impl Room {
     /// Returns whether the room is booked without a name on a day. `O(log n)` for `n` runs of such days. Does not
     /// allocate.
     pub fn is_booked_without_name(&self, day: i32) -> bool
+        // True exactly when the day is booked without a name.
         ensures { IsTrue result ↔ Covers self.now.0 day }
     {
         self.unnamed.contains(&day)
@@ -161,6 +170,8 @@ impl Room {
 
     /// Returns the bookings with a name, in ascending order. Does not allocate.
     pub fn named(&self) -> &[(Interval<i32>, String)]
+        // The result is the list of the bookings with a name, which ascend; two that touch have different names. Each
+        // of their days is a date.
         ensures same { named_of result.now ≡ self.now.1 }
         ensures entries { IsEntryList string_eq result.now }
         ensures dates { IsSubset (HasValue (HasAt string_eq result.now)) IsEpochDay }
