@@ -25,7 +25,8 @@ pub enum Asking {
     Alike,
 }
 
-/// Returns 1 for yes, 0 for no, or an error code.
+/// Returns 1 for yes, 0 for no, or an error code. `O(n + m)` if both are lists of runs, else
+/// `O(n log n + m log m)`.
 pub fn ask<R: Pair>(alloc: Global, asking: Asking, a: &[R], b: &[R]) -> i64
     // The result is `out_of_range` exactly when a member is outside the range; else 1 if what is asked holds of the
     // members and 0 if not, or `out_of_memory`.
@@ -93,7 +94,8 @@ fn asked<R: Pair>(alloc: Global, asking: Asking, a: &[R], b: &[R]) -> Result<boo
     })
 }
 
-/// Writes the number of members and returns 0, or returns an error code.
+/// Writes the number of members and returns 0, or returns an error code. `O(n log n)` for `n` pairs, or
+/// `O(n)` if they ascend.
 pub fn count<R: Pair>(alloc: Global, a: &[R], size: &mut <R::Bound as Width>::Output) -> i64
     // The result is `out_of_range` exactly when a member is outside the range; else the number of members is written,
     // and 0 returned, or it is `out_of_memory`. With a code nothing is written.

@@ -21,7 +21,8 @@ pub enum Editing {
 }
 
 /// Adds or removes a run. The list is the first `n` pairs of the buffer, and what is made of it is
-/// written to the same buffer. Returns the number of runs or an error code.
+/// written to the same buffer. Returns the number of runs or an error code. `O(n log n)`, or `O(n)` if
+/// the pairs ascend.
 pub fn edit<R: Pair>(alloc: Global, editing: Editing, buffer: &mut [R], n: usize, run: R) -> i64
     // The result is `out_of_range` exactly when a number of the first `n` pairs or of the run is outside the range;
     // else the runs of the members of these pairs with the numbers of the run, or without them, are written if there is

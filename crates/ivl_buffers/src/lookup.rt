@@ -39,7 +39,7 @@ fn least_from<R: Pair>(runs: &[R], v: R::Bound) -> Option<R::Bound>
     least
 }
 
-/// Returns the least number of a pair that is at least `v`.
+/// Returns the least number of a pair that is at least `v`. `O(1)`.
 pub fn least_in<R: Pair>(run: R, v: R::Bound) -> Option<R::Bound>
     // The result is the least number of the run that is at least `v`, or `None` if there is none.
     ensures { IsNextIn (R.Bound.value v) (IsBetween (R.pair run)) (option_map R.Bound.value result) }
@@ -66,7 +66,7 @@ fn lesser<B: Width>(a: Option<B>, b: Option<B>) -> Option<B>
 }
 
 /// Writes the lowest `count` consecutive members and returns 1, or returns 0 if there are none, or
-/// an error code.
+/// an error code. `O(n log n)` for `n` pairs, or `O(n)` if they ascend.
 pub fn first_fit<R: Pair>(
     alloc: Global,
     a: &[R],

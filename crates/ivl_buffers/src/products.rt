@@ -14,6 +14,7 @@ use intervallum::width::Width;
 use std::alloc::{AllocError, Global};
 
 /// Makes the set of the products, and writes its runs. Returns their number or an error code.
+/// `O(n m log (n m))` for `n` and `m` pairs.
 pub fn products<R: Pair>(alloc: Global, a: &[R], b: &[R], out: &mut [R]) -> i64
     // The result is `out_of_range` exactly when a member is outside the range; else `product_out_of_range` only if a
     // product of a member of each is, or `out_of_memory`, or the runs of the products are written if there is room, and

@@ -12,7 +12,8 @@ use intervallum::sweep::coalesce;
 use intervallum::width::Width;
 use std::alloc::{AllocError, Global};
 
-/// Returns true exactly when each member of the pairs is in the range.
+/// Returns true exactly when each member of the pairs is in the range. `O(n)` for `n` pairs, does not
+/// allocate.
 pub fn are_inside<R: Pair>(runs: &[R]) -> bool
     // True exactly when each number of the pairs is in the range.
     ensures { IsTrue result ↔ IsSubset (Covers (map R.pair runs.now)) (IsBetween R.Bound.whole) }
@@ -39,7 +40,7 @@ fn is_crossed<R: Pair>(run: R) -> bool
     run.upper() < run.lower()
 }
 
-/// Returns the set of the members of the pairs.
+/// Returns the set of the members of the pairs. `O(n log n)` for `n` pairs, or `O(n)` if they ascend.
 pub fn set_of<R: Pair>(alloc: Global, runs: &[R]) -> Result<IntervalSet<R::Bound>, AllocError>
     requires { IsSubset (Covers (map R.pair runs.now)) (IsBetween R.Bound.whole) }
     // On success, the members are exactly the numbers of the pairs.

@@ -187,7 +187,7 @@ fn is_below<R: Pair>(run: R, next: R) -> bool
     }
 }
 
-/// Returns true exactly when some number lies above one run and below another.
+/// Returns true exactly when some number lies above one run and below another. `O(1)`.
 pub fn leaves_free<R: Pair>(last: R, run: R) -> bool
     requires last { IsRunIn R.Bound.whole (R.pair last) }
     requires run { IsRunIn R.Bound.whole (R.pair run) }

@@ -37,7 +37,8 @@ pub enum OfTwo {
     OneAlone,
 }
 
-/// Makes a set of one list, and writes its runs. Returns their number or an error code.
+/// Makes a set of one list, and writes its runs. Returns their number or an error code. `O(n log n)` for
+/// `n` pairs, or `O(n)` if they ascend.
 pub fn of_one<R: Pair>(alloc: Global, making: OfOne, a: &[R], out: &mut [R]) -> i64
     // The result is `out_of_range` exactly when a member is outside the range; else the runs of what is made of the
     // members are written if there is room, and their number is returned, or it is `out_of_memory`. With a code nothing
@@ -99,7 +100,8 @@ fn walk_rest<R: Pair>(a: &[R], out: &mut [R]) -> i64
     complement(a, out) as i64
 }
 
-/// Makes a set of two lists, and writes its runs. Returns their number or an error code.
+/// Makes a set of two lists, and writes its runs. Returns their number or an error code. `O(n + m)` if
+/// both are lists of runs, else `O(n log n + m log m)`.
 pub fn of_two<R: Pair>(alloc: Global, making: OfTwo, a: &[R], b: &[R], out: &mut [R]) -> i64
     // The result is `out_of_range` exactly when a member of either list is outside the range; else the runs of what is
     // made of the members are written if there is room, and their number is returned, or it is `out_of_memory`. With a

@@ -23,6 +23,7 @@ pub enum Adding {
 }
 
 /// Makes the set of the sums or differences that are in the range, and writes its runs.
+/// `O(n m log (n m))` for `n` and `m` pairs.
 pub fn of_members<R: Pair>(alloc: Global, adding: Adding, a: &[R], b: &[R], out: &mut [R]) -> i64
     // The result is `out_of_range` exactly when a member of either list is outside the range; else the runs of the
     // sums, or by `adding` the differences, that are in the range are written if there is room, and their number is

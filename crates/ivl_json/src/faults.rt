@@ -46,7 +46,7 @@ pub enum JsonFault {
     /// An allocation failed. Only a set's `from_value` allocates.
     #[error("memory")]
     Memory,
-    /// The item of a set at this place, counted from 0, is the first that is not an interval.
+    /// The item of a set at this index is the first that is not an interval.
     #[error("item {0}: {1}")]
     At(usize, ItemFault),
 }
@@ -57,7 +57,7 @@ impl From<ItemFault> for JsonFault {
 
     ghost from_gives = { λ fault same. same ≡ json_fault fault };
 
-    /// Returns the same fault, for an interval that is not an item of a set.
+    /// Returns the same fault, for an interval that is not an item of a set. `O(1)`.
     ///
     /// ```
     /// assert_eq!(rt; JsonFault::from(ItemFault::Length(3)), JsonFault::Length(3));
@@ -78,7 +78,7 @@ impl From<AllocError> for JsonFault {
 
     ghost from_gives = { λ _ fault. fault ≡ Memory };
 
-    /// Returns [`JsonFault::Memory`].
+    /// Returns [`JsonFault::Memory`]. `O(1)`.
     ///
     /// ```
     /// assert_eq!(rt; JsonFault::from(AllocError), JsonFault::Memory);

@@ -14,18 +14,18 @@ pub trait Pair: Copy {
     /// The numbers of the bounds.
     ghost pair: { Self → ℤ × ℤ };
 
-    /// Returns the lower bound.
+    /// Returns the lower bound. `O(1)`.
     fn lower(self) -> Self::Bound
         // The result is the lower bound of the pair.
         ensures { Self.Bound.value result ≡ (pair self).0 };
 
-    /// Returns the upper bound.
+    /// Returns the upper bound. `O(1)`.
     fn upper(self) -> Self::Bound
         // The result is the upper bound of the pair.
         ensures { Self.Bound.value result ≡ (pair self).1 };
 
     /// Returns the pair of two bounds, of which the lower is not below the range and the upper not
-    /// above it. The two may cross.
+    /// above it. The two may cross. `O(1)`.
     fn of(lower: Self::Bound, upper: Self::Bound) -> Self
         requires { IsInRange Self.Bound.whole (Self.Bound.value lower, Self.Bound.value upper) }
         // The bounds of the pair are `lower` and `upper`.

@@ -25,7 +25,7 @@ pub trait Sink<R: Pair> {
     /// Only `push_filled` has added to the list.
     ghost repeats: { Self → Type 0 };
 
-    /// Adds a run.
+    /// Adds a run. `O(1)`.
     fn push(&mut self, run: R)
         requires { count self.old < room self.old }
         // The run is added at the end of the list, one more is counted, and the room stays.
@@ -33,7 +33,7 @@ pub trait Sink<R: Pair> {
         ensures count { count self.new ≡ count self.old + 1 }
         ensures room { room self.new ≡ room self.old };
 
-    /// Adds a run, in the place of the last one if a condition holds.
+    /// Adds a run, in the place of the last one if a condition holds. `O(1)`.
     fn push_over(&mut self, is_over: bool, run: R)
         requires room { count self.old < room self.old }
         requires last { from_bool is_over ≤ count self.old }
@@ -43,7 +43,7 @@ pub trait Sink<R: Pair> {
         ensures count { count self.new + from_bool is_over ≡ count self.old + 1 }
         ensures room { room self.new ≡ room self.old };
 
-    /// Adds a run unless it is crossed.
+    /// Adds a run unless it is crossed. `O(1)`.
     fn push_filled(&mut self, run: R)
         requires room { count self.old < room self.old }
         requires repeats { repeats self.old }
@@ -54,8 +54,8 @@ pub trait Sink<R: Pair> {
         ensures count { count self.new ≤ count self.old + 1 }
         ensures room { room self.new ≡ room self.old };
 
-    /// Writes a run at a place, the last one or the next, if it `is_filled`: the list ends there then.
-    /// What stands after it has to be dropped by `cut`.
+    /// Writes a run at the index `place`, the last one or the next, if it `is_filled`: the list ends there then.
+    /// What stands after it has to be dropped by `cut`. `O(1)`.
     fn put_if(&mut self, place: usize, is_filled: bool, run: R)
         requires { place < room self.old }
         // A list of `place` runs, or of one more, has the run at `place` as its last one if `is_filled`; if not, a list
@@ -63,7 +63,7 @@ pub trait Sink<R: Pair> {
         ensures list { (start : Self) → PutsAt place is_filled (R.pair run) (begins start self.old) (begins start self.new) }
         ensures room { room self.new ≡ room self.old };
 
-    /// Keeps the first `kept` runs, which are all that were written.
+    /// Keeps the first `kept` runs, which are all that were written. `O(1)`.
     fn cut(&mut self, kept: usize)
         // A list of `kept` runs that was begun is what the sink holds and counts. The room stays.
         ensures list { (start : Self) (L : List (ℤ × ℤ)) → begins start self.old L → kept ≡ length L → holds start self.new L × (count self.new ≡ kept) }
@@ -107,10 +107,10 @@ impl<R: Pair> Sink<R> for Vec<R> {
     }
 }
 
-/// The first places of a slice, as many as there are, and the number of all runs.
+/// A list that stands in the first elements of a slice, as far as it has room, and the number of all runs.
 ///
 /// ```
-/// // both runs are counted, and the one that has a place is written
+/// // both runs are counted, and the one that has room is written
 /// let mut buffer = [Interval::new(0u8, 0)];
 /// let mut places = Places::new(&mut buffer);
 /// merges::complement(&[Interval::new(4, 9)], &mut places);
@@ -126,10 +126,10 @@ pub struct Places<'a, R: Pair> {
 }
 
 impl<'a, R: Pair> Places<'a, R> {
-    /// Returns an empty list.
+    /// Returns an empty list. `O(1)`.
     pub fn new(out: &'a mut [R]) -> Places<'a, R>
-        // The slice is the one that was lent, as it is, with no run counted; `last` is what stands at its first place,
-        // if there is one.
+        // The slice is the one that was lent, as it is, with no run counted; `last` is its first element, if there is
+        // one.
         ensures same { result.out.ghost_name ≡ out.entry.ghost_name }
         ensures now { result.out.now ≡ out.old }
         ensures count { result.count ≡ 0 }
@@ -143,7 +143,7 @@ impl<'a, R: Pair> Places<'a, R> {
         }
     }
 
-    /// Gives the slice back, and returns the number of all runs.
+    /// Gives the slice back, and returns the number of all runs. `O(1)`.
     pub fn count(self) -> usize
         // The result is the number of runs that were counted, and the slice is given back as it is.
         ensures count { result ≡ self.entry.count }
@@ -181,7 +181,7 @@ impl<R: Pair> Sink<R> for Places<'_, R> {
     }
 
     /// The last run is written once more where it stands if the pair is crossed: so each step of a loop
-    /// writes, and none reads the slice, which would wait for what the step before has written.
+    /// writes, and none reads the slice, which would wait for what the step before has written. `O(1)`.
     fn push_filled(&mut self, run: R) {
         let is_filled = run.lower() <= run.upper();
         self.last = select_unpredictable(is_filled, run, self.last);
@@ -191,7 +191,7 @@ impl<R: Pair> Sink<R> for Places<'_, R> {
     }
 
     /// A compiler may choose by a jump, since what stands there is read: this serves where the
-    /// condition nearly always holds.
+    /// condition nearly always holds. `O(1)`.
     fn put_if(&mut self, place: usize, is_filled: bool, run: R) {
         put_by(self.out, place, run, is_filled);
     }

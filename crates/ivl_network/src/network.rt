@@ -113,7 +113,7 @@ impl<B: Width> Model for Network<B> {
 }
 
 impl<B: Width> Network<B> {
-    /// Creates a network without variables. Does not allocate.
+    /// Creates a network without variables. `O(1)`, does not allocate.
     ///
     /// ```
     /// let network: Network<i32> = Network::new(alloc);
@@ -136,6 +136,7 @@ impl<B: Width> Network<B> {
     }
 
     /// Makes room for so many more variables and rules: adding them to a network without a mark reallocates nothing.
+    /// Linear in the variables and rules, old and new, where memory is allocated, else `O(1)`.
     ///
     /// # Errors
     ///
@@ -378,7 +379,7 @@ impl<B: Width> Network<B> {
     /// `Differs` that takes nothing from them: each narrowing that counts removes a member, or leaves one
     /// rule fewer to look at. The rules are looked at in rounds, and one that has to be looked at again
     /// waits for the next; one that alone names a variable may wait until no other does.
-    /// `O(1)` for a rule beside its narrowing, and for each domain that changes a pass over the rules that
+    /// Costs its narrowings, `O(1)` beside each, and for each domain that changes a pass over the rules that
     /// name its variable. Rules in a circle may take a member or two at a time, and then need as many
     /// narrowings as there are members: the budget is what stops them.
     ///
@@ -431,6 +432,7 @@ impl<B: Width> Network<B> {
     /// Narrows the domains as [`Network::settle`] does, but no further once one of them is empty: no point
     /// solves the rules then. [`Settled::Unfinished`] says that the budget is used up or that a domain is
     /// empty; check with [`Network::has_empty`]. If a domain is empty before the call, nothing changes.
+    /// Costs what [`Network::settle`] costs.
     ///
     /// # Errors
     ///
@@ -506,7 +508,8 @@ impl<B: Width> Network<B> {
     /// for more than is left of the budget is not begun. Returns [`Settled::All`] exactly if no rule is
     /// left that has to be looked at.
     ///
-    /// After [`Settled::Unfinished`] another call goes on, if its budget covers the next narrowing.
+    /// After [`Settled::Unfinished`] another call goes on, if its budget covers the next narrowing. Costs
+    /// what [`Network::settle`] costs.
     ///
     /// # Errors
     ///
@@ -710,7 +713,8 @@ impl<B: Width> Network<B> {
     }
 
     /// Drops a mark and later ones, if there are any. All changes stay. Without a mark, the network
-    /// keeps no domain that is replaced. Does not allocate.
+    /// keeps no domain that is replaced. Linear in the changes since the first mark if it drops that, else
+    /// `O(1)`. Does not allocate.
     ///
     /// ```
     /// let mut network: Network<i32> = Network::new(alloc);

@@ -1,4 +1,5 @@
-//! Makes each call that allocates, by its name, and prints how it ended.
+//! Makes calls that allocate, each by its name, and prints how it ended. Those of maps, sets in pages, rules and
+//! networks are tried by the tests of the crate for Cargo.
 //!
 //! Reads one name per line. Prints `answered` if the call returned the expected result, `out of memory` if an
 //! allocation failed and the operands are unchanged, and otherwise what is wrong. A number after a name makes the

@@ -33,6 +33,7 @@ impl Model for Access {
 impl Access {
     /// Creates an access to an empty array, with no values of `i` and `k`. Does not allocate.
     pub fn new(alloc: Global) -> Access
+        // `i` and `k` have no values, and the array is empty.
         ensures { result ≡ record { index = []; offset = []; length = 0 } }
     {
         Access {
@@ -50,6 +51,9 @@ impl Access {
     ///
     /// See [`Fault`].
     pub fn carry_out(&mut self, name: &str, words: &str) -> Result<Reply, Fault>
+        // After `i` or `k` with ranges these are its values, and after `length` with a number this is the length.
+        // `check` tells that each `i + k` is an index, or the `i` for which each is. A fault tells why a line is not
+        // carried out. What is not named here stays as it is.
         ensures { Replies self.old name.now (words_between words.now) result self.new }
     {
         match name {

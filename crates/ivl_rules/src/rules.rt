@@ -30,13 +30,16 @@ pub enum Rule {
 }
 
 impl Rule {
-    /// Returns the variables of the rule, in order. A rule of two variables has its second at both `y` and `z`.
+    /// Returns the variables of the rule, in order. A rule of two variables has its second at both `y` and `z`. `O(1)`,
+    /// does not allocate.
     ///
     /// ```
     /// let before = Rule::AtMost { x: 4, y: 2, by: 0 };
     /// assert!(rt; before.places() == Constraint { x: 4, y: 2, z: 2 });
     /// ```
     pub fn places(&self) -> Constraint
+        // The result is the variables of the rule, in order; a rule of two variables has its second at both `y` and
+        // `z`.
         ensures { result ≡ places_of self.now }
     {
         match self {
@@ -47,13 +50,14 @@ impl Rule {
         }
     }
 
-    /// Returns true exactly when the rule names each of its variables once.
+    /// Returns true exactly when the rule names each of its variables once. `O(1)`, does not allocate.
     ///
     /// ```
     /// assert!(rt; Rule::Differs { x: 0, y: 1, by: 0 }.is_over_different());
     /// assert!(rt; !Rule::Differs { x: 1, y: 1, by: 5 }.is_over_different());
     /// ```
     pub fn is_over_different(&self) -> bool
+        // True exactly when the rule names each of its variables once.
         ensures { IsTrue result ↔ AreDifferent self.now }
     {
         match self {
@@ -65,13 +69,14 @@ impl Rule {
     }
 
     /// Returns true exactly for a rule that takes members only for a variable whose domain is a single number or
-    /// empty: `Differs`.
+    /// empty: `Differs`. `O(1)`, does not allocate.
     ///
     /// ```
     /// assert!(rt; Rule::Differs { x: 0, y: 1, by: 5 }.needs_single_numbers());
     /// assert!(rt; !Rule::AtMost { x: 0, y: 1, by: 5 }.needs_single_numbers());
     /// ```
     pub fn needs_single_numbers(&self) -> bool
+        // True exactly for a `Differs`.
         ensures { result ≡ needs_singles self.now }
     {
         match self {
@@ -82,25 +87,28 @@ impl Rule {
         }
     }
 
-    /// Returns true exactly when the rule names the variable.
+    /// Returns true exactly when the rule names the variable. `O(1)`, does not allocate.
     ///
     /// ```
     /// assert!(rt; Rule::Shifted { x: 0, y: 3, by: 1 }.names(3));
     /// ```
     pub fn names(&self, variable: usize) -> bool
+        // True exactly when the rule names the variable.
         ensures { IsTrue result ↔ NamesOf self.now variable }
     {
         let c = self.places();
         variable == c.x || variable == c.y || variable == c.z
     }
 
-    /// Returns the first variable of the rule that is not below `count`, or `None` if all are.
+    /// Returns the first variable of the rule that is not below `count`, or `None` if all are. `O(1)`, does not
+    /// allocate.
     ///
     /// ```
     /// let rule = Rule::Shifted { x: 0, y: 3, by: 1 };
     /// assert!(rt; rule.first_unknown(3) == Some(3) && rule.first_unknown(4) == None);
     /// ```
     pub fn first_unknown(&self, count: usize) -> Option<usize>
+        // The result is the first variable of the rule, in order, that is not below `count`, or `None` if all are.
         ensures first { result ≡ first_unknown_in count (places_of self.now) }
         ensures present { result ≡ None → AllPresent count (places_of self.now) }
     {

@@ -114,9 +114,9 @@ impl From<AllocError> for SearchFault {
 /// `(2 p - 1) * (c / 500 + 1)` for `c` constraints, where `p` is the product of the sizes of the
 /// domains, or 1 if that is 0.
 ///
-/// Copies the domains and the constraints once, and counts for each variable how many name it. Each
-/// node costs its narrowings and a pass over the domains; memory is that of the solutions, of the
-/// domains that one branch replaces, and of the cuts of the branch.
+/// Costs a copy of the domains and the constraints, a count of those that name each variable, and
+/// for each node its narrowings and a pass over the domains. Memory is that of the solutions, of
+/// the domains that one branch replaces, and of the cuts of the branch.
 ///
 /// # Errors
 ///
@@ -140,10 +140,18 @@ pub fn solutions<B: Width>(
     limits: Limits,
 ) -> Result<Found<B>, SearchFault>
     requires { All AreDistinct constraints.now }
+    // The fault names the first index, in list order, without a domain, exactly when there is one.
     ensures unknown { (i : ℕ) → (result ≡ Err (SearchFault.Variable i)) ↔ (first_unknown_of (length domains.now) constraints.now ≡ Some i) }
+
+    // On success, each point is a solution: it has a member of each domain, in order, and satisfies each constraint. No
+    // point is there twice. If the search ended with `All`, every solution is there.
     ensures sound { IfOk result (λ found. All (Solves constraints.now domains.now) (map (λ point. map B.value point.items) found.points.items)) }
     ensures once { IfOk result (λ found. EachOnce (map (λ point. map B.value point.items) found.points.items)) }
     ensures complete { IfOk result (λ found. found.end ≡ End.All → (point : List ℤ) → Solves constraints.now domains.now point → Contains (map (λ point. map B.value point.items) found.points.items) point) }
+
+    // There are at most `limits.solutions` points, exactly so many if the search ended with `Solutions`, and at most
+    // `limits.nodes`. It ends with `Nodes` only if `limits.nodes` is less than `(2 p - 1) * (c / 500 + 1)`, for `c`
+    // constraints and the product `p` of the sizes of the domains, or 1 if that is 0.
     ensures bounded { IfOk result (λ found. length found.points.items ≤ limits.solutions) }
     ensures full { IfOk result (λ found. found.end ≡ End.Solutions → length found.points.items ≡ limits.solutions) }
     ensures visited { IfOk result (λ found. length found.points.items ≤ limits.nodes) }
@@ -157,7 +165,7 @@ pub fn solutions<B: Width>(
 }
 
 /// Searches as [`solutions`] does, without its condition: returns `None` if a constraint has a
-/// variable twice.
+/// variable twice. Costs what [`solutions`] costs, and a pass over the constraints.
 ///
 /// # Errors
 ///
@@ -168,11 +176,20 @@ pub fn try_solutions<B: Width>(
     constraints: &[Constraint],
     limits: Limits,
 ) -> Result<Option<Found<B>>, SearchFault>
+    // `None` is returned, where nothing fails, exactly when some constraint has a variable twice. The fault names the
+    // first index, in list order, without a domain, exactly when there is one and each constraint has three different
+    // variables.
     ensures none { IfOk result (λ o. IsNone o ↔ (¬ (All AreDistinct constraints.now))) }
     ensures unknown { (i : ℕ) → (result ≡ Err (SearchFault.Variable i)) ↔ (All AreDistinct constraints.now × (first_unknown_of (length domains.now) constraints.now ≡ Some i)) }
+
+    // Some: each point is a solution: it has a member of each domain, in order, and satisfies each constraint. No point
+    // is there twice. If the search ended with `All`, every solution is there.
     ensures sound { IfOk result (λ o. IfSome o (λ found. All (Solves constraints.now domains.now) (map (λ point. map B.value point.items) found.points.items))) }
     ensures once { IfOk result (λ o. IfSome o (λ found. EachOnce (map (λ point. map B.value point.items) found.points.items))) }
     ensures complete { IfOk result (λ o. IfSome o (λ found. found.end ≡ End.All → (point : List ℤ) → Solves constraints.now domains.now point → Contains (map (λ point. map B.value point.items) found.points.items) point)) }
+
+    // There are at most `limits.solutions` points, exactly so many if the search ended with `Solutions`, and at most
+    // `limits.nodes`. It ends with `Nodes` only if `limits.nodes` is less than `solutions` says.
     ensures bounded { IfOk result (λ o. IfSome o (λ found. length found.points.items ≤ limits.solutions)) }
     ensures full { IfOk result (λ o. IfSome o (λ found. found.end ≡ End.Solutions → length found.points.items ≡ limits.solutions)) }
     ensures visited { IfOk result (λ o. IfSome o (λ found. length found.points.items ≤ limits.nodes)) }
@@ -196,6 +213,7 @@ pub fn try_solutions<B: Width>(
 /// assert!(rt; !all_distinct(&[Constraint { x: 0, y: 1, z: 2 }, Constraint { x: 0, y: 0, z: 2 }]));
 /// ```
 pub fn all_distinct(constraints: &[Constraint]) -> bool
+    // True exactly when each constraint has three different variables.
     ensures { IsTrue result ↔ All AreDistinct constraints.now }
 {
     constraints.iter().all(|c| c.distinct())
@@ -203,7 +221,7 @@ pub fn all_distinct(constraints: &[Constraint]) -> bool
 
 /// Counts the points that [`solutions`] would return with the same limits, and keeps none of them.
 /// The count is that of all solutions if the search ended with [`End::All`], and that of some of
-/// them if not.
+/// them if not. Costs what [`solutions`] costs, but for the memory of the solutions.
 ///
 /// The caller must ensure that each constraint has three different variables. Check with
 /// [`Constraint::distinct`], or [`all_distinct`] for a list.
@@ -227,8 +245,15 @@ pub fn count<B: Width>(
     limits: Limits,
 ) -> Result<(usize, End), SearchFault>
     requires { All AreDistinct constraints.now }
+    // The fault names the first index, in list order, without a domain, exactly when there is one.
     ensures unknown { (i : ℕ) → (result ≡ Err (SearchFault.Variable i)) ↔ (first_unknown_of (length domains.now) constraints.now ≡ Some i) }
+
+    // On success, so many different points are solutions, and if the search ended with `All`, there is no other. A
+    // solution has a member of each domain, in order, and satisfies each constraint.
     ensures counted { IfOk result (λ r. (points : List (List ℤ)) × (length points ≡ r.0) × Finds (Solves constraints.now domains.now) points r.1) }
+
+    // The count is at most `limits.solutions`, exactly that if the search ended with `Solutions`, and at most
+    // `limits.nodes`. It ends with `Nodes` only if `limits.nodes` is less than `solutions` says.
     ensures bounded { IfOk result (λ r. r.0 ≤ limits.solutions) }
     ensures full { IfOk result (λ r. r.1 ≡ End.Solutions → r.0 ≡ limits.solutions) }
     ensures visited { IfOk result (λ r. r.0 ≤ limits.nodes) }
@@ -253,11 +278,11 @@ pub fn count<B: Width>(
 /// The caller must ensure that each constraint has three different variables. Check with
 /// [`Constraint::distinct`], or [`all_distinct`] for a list.
 ///
-/// Copies the domains and the constraints once, and counts for each variable how many name it. Each
-/// search looks for one solution among the lower half of the numbers that the variable can still
-/// have; then these are cut to what is below it, or to the upper half if there is none. So there
-/// are at most 64 searches, which share the nodes. Memory is that of two solutions, of the domains
-/// that one branch replaces, and of the cuts of the branch.
+/// Costs a copy of the domains and the constraints, a count of those that name each variable, and
+/// at most 64 searches, which share the nodes. Each search looks for one solution among the lower
+/// half of the numbers that the variable can still have; then these are cut to what is below it, or
+/// to the upper half if there is none. Memory is that of two solutions, of the domains that one
+/// branch replaces, and of the cuts of the branch.
 ///
 /// Returns [`End::Nodes`] only if `limits.nodes` is at most `2 p * (c / 500 + 1)`, with `p` and `c`
 /// as for [`solutions`].
@@ -285,10 +310,22 @@ pub fn least<B: Width>(
     limits: Limits,
 ) -> Result<Best<B>, SearchFault>
     requires { All AreDistinct constraints.now }
+    // The fault names the first index of the constraints, in list order, without a domain, or else `variable` if it has
+    // none, exactly when there is one.
     ensures unknown { (i : ℕ) → (result ≡ Err (SearchFault.Variable i)) ↔ (first_unknown_or variable (length domains.now) constraints.now ≡ Some i) }
+
+    // On success, the point, if there is one, is a solution: it has a member of each domain, in order, and satisfies
+    // each constraint. If the search ended with `All`, no solution gives the variable a smaller number, and without a
+    // point there is no solution.
     ensures sound { IfOk result (λ best. IfSome best.point (λ point. Solves constraints.now domains.now (map B.value point.items))) }
     ensures best { IfOk result (λ best. best.end ≡ End.All → IfSome best.point (λ point. IsLeastAt variable (Solves constraints.now domains.now) (map B.value point.items))) }
     ensures none { IfOk result (λ best. best.end ≡ End.All → IfNone best.point ((point : List ℤ) → ¬ (Solves constraints.now domains.now point))) }
+
+    // There is a point only if both limits are at least 1. If the search ended with `Solutions`, the point is the last
+    // of `limits.solutions` solutions, each with a smaller number for the variable than the one before it, or there is
+    // none if that is 0, and `limits.nodes` is no less than `limits.solutions`. It ends with `Nodes` only if
+    // `limits.nodes` is at most `2 p * (c / 500 + 1)`, for `c` constraints and the product `p` of the sizes of the
+    // domains, or 1 if that is 0.
     ensures bounded { IfOk result (λ best. IfSome best.point (λ _. (1 ≤ limits.solutions) × (1 ≤ limits.nodes))) }
     ensures full { IfOk result (λ best. best.end ≡ End.Solutions → FallsTo variable (Solves constraints.now domains.now) limits.solutions (option_map (λ point. map B.value point.items) best.point)) }
     ensures visited { IfOk result (λ best. best.end ≡ End.Solutions → limits.solutions ≤ limits.nodes) }
@@ -303,7 +340,8 @@ pub fn least<B: Width>(
 
 /// Returns a solution in which a variable has its greatest number, as [`least`] does one with its
 /// least: no solution gives it a greater one. Searches greater numbers first, of every variable, and
-/// so visits as many nodes as [`least`] does where all numbers have the other sign.
+/// so visits as many nodes as [`least`] does where all numbers have the other sign. Costs as much as
+/// that.
 ///
 /// The caller must ensure that each constraint has three different variables. Check with
 /// [`Constraint::distinct`], or [`all_distinct`] for a list.
@@ -330,10 +368,21 @@ pub fn greatest<B: Width>(
     limits: Limits,
 ) -> Result<Best<B>, SearchFault>
     requires { All AreDistinct constraints.now }
+    // The fault names the first index of the constraints, in list order, without a domain, or else `variable` if it has
+    // none, exactly when there is one.
     ensures unknown { (i : ℕ) → (result ≡ Err (SearchFault.Variable i)) ↔ (first_unknown_or variable (length domains.now) constraints.now ≡ Some i) }
+
+    // On success, the point, if there is one, is a solution: it has a member of each domain, in order, and satisfies
+    // each constraint. If the search ended with `All`, no solution gives the variable a greater number, and without a
+    // point there is no solution.
     ensures sound { IfOk result (λ best. IfSome best.point (λ point. Solves constraints.now domains.now (map B.value point.items))) }
     ensures best { IfOk result (λ best. best.end ≡ End.All → IfSome best.point (λ point. IsGreatestAt variable (Solves constraints.now domains.now) (map B.value point.items))) }
     ensures none { IfOk result (λ best. best.end ≡ End.All → IfNone best.point ((point : List ℤ) → ¬ (Solves constraints.now domains.now point))) }
+
+    // There is a point only if both limits are at least 1. If the search ended with `Solutions`, the point is the last
+    // of `limits.solutions` solutions, each with a greater number for the variable than the one before it, or there is
+    // none if that is 0, and `limits.nodes` is no less than `limits.solutions`. It ends with `Nodes` only if
+    // `limits.nodes` is at most what `least` says.
     ensures bounded { IfOk result (λ best. IfSome best.point (λ _. (1 ≤ limits.solutions) × (1 ≤ limits.nodes))) }
     ensures full { IfOk result (λ best. best.end ≡ End.Solutions → RisesTo variable (Solves constraints.now domains.now) limits.solutions (option_map (λ point. map B.value point.items) best.point)) }
     ensures visited { IfOk result (λ best. best.end ≡ End.Solutions → limits.solutions ≤ limits.nodes) }

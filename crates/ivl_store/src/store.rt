@@ -6,6 +6,9 @@
 //! constraint once, [`Store::propagate`] by a list in rounds, and [`Store::post_all`] takes cuts
 //! and constraints one by one and replies after each whether a domain is empty.
 //!
+//! A constraint supports domains if each member of a domain that it names is in a solution of it over
+//! these domains.
+//!
 //! ```
 //! // x + y = z
 //! let sum = Constraint { x: 0, y: 1, z: 2 };
@@ -78,6 +81,7 @@ impl<B: Width> Store<B> {
     /// assert_eq!(rt; store.domains().len(), 1);
     /// ```
     pub fn new(alloc: Global, domains: Vec<IntervalSet<B>>) -> Store<B>
+        // The domains are those that were given, in this order.
         ensures { result ≡ domains.items }
     {
         let mut empties = 0;
@@ -93,7 +97,8 @@ impl<B: Width> Store<B> {
         }
     }
 
-    /// Makes room for so many more variables: adding them reallocates nothing.
+    /// Makes room for so many more variables: adding them reallocates nothing. Linear in the variables
+    /// where memory is allocated, else `O(1)`.
     ///
     /// # Errors
     ///
@@ -105,6 +110,7 @@ impl<B: Width> Store<B> {
     /// assert_eq!(rt; store.domains().len(), 1);
     /// ```
     pub fn reserve(&mut self, variables: usize) -> Result<(), AllocError>
+        // The domains stay as they are, whatever the result.
         ensures same { self.new ≡ self.old }
     {
         self.domains.reserve(variables)?;
@@ -113,6 +119,8 @@ impl<B: Width> Store<B> {
 
     /// Returns the domains, in the order of the variables. `O(1)`, does not allocate.
     pub fn domains(&self) -> &[IntervalSet<B>]
+        // The slice has the domains, in order. The runs of each ascend, lie in the range, and neither overlap nor
+        // touch.
         ensures same { result.now ≡ self.now }
         ensures runs { All (IsRunListIn B.whole) self.now }
     {
@@ -131,8 +139,12 @@ impl<B: Width> Store<B> {
     /// assert!(rt; store.domains()[1] == IntervalSet::new(alloc, 3, 4)?);
     /// ```
     pub fn add_variable(&mut self, domain: IntervalSet<B>) -> Result<usize, AllocError>
+        // On success, the domain is added after the others, and the result is its index: the number of variables
+        // before.
         ensures index { IfOk result (λ i. i ≡ length self.old) }
         ensures added { OnOk result (self.new ≡ self.old ++ domain ∷ []) }
+
+        // If it fails, the domains are unchanged.
         ensures err { OnErr result (self.new ≡ self.old) }
     {
         let index = self.domains.len();
@@ -153,6 +165,7 @@ impl<B: Width> Store<B> {
     /// assert!(rt; store.has_empty());
     /// ```
     pub fn has_empty(&self) -> bool
+        // True exactly when the domain of some variable has no run, and so no member.
         ensures empty { IsTrue result ↔ Any (λ L. L ≡ []) self.now }
         ensures variable { IsTrue result ↔ HasEmpty (length self.now) (set_at self.now) }
     {

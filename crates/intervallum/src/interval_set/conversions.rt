@@ -253,13 +253,13 @@ impl<B: Width> ToIntervalSet<B> for &[(B, B)] {
 
     ghost pairs = { λ s. map (λ p. (B.value p.0, B.value p.1)) s.now };
 
-    /// Returns true exactly when `Interval::in_range` is true of each pair.
+    /// Returns true exactly when `Interval::in_range` is true of each pair. `O(n)` for `n` pairs.
     fn in_range(&self) -> bool {
         are_in_range(self)
     }
 
-    /// Returns the set of the members of every pair. The pairs are unchanged. Fails only if
-    /// allocation fails.
+    /// Returns the set of the members of every pair. The pairs are unchanged. `O(n log n)` for `n`
+    /// pairs. Fails only if allocation fails.
     fn to_interval_set(self, alloc: Global) -> Result<IntervalSet<B>, AllocError> {
         of_pairs(alloc, self)
     }
@@ -270,13 +270,13 @@ impl<B: Width> ToIntervalSet<B> for Vec<(B, B)> {
 
     ghost pairs = { λ v. map (λ p. (B.value p.0, B.value p.1)) v.items };
 
-    /// Returns true exactly when `Interval::in_range` is true of each pair.
+    /// Returns true exactly when `Interval::in_range` is true of each pair. `O(n)` for `n` pairs.
     fn in_range(&self) -> bool {
         are_in_range(self.as_slice())
     }
 
-    /// Returns the set of the members of every pair. The vector is consumed. Fails only if
-    /// allocation fails.
+    /// Returns the set of the members of every pair. The vector is consumed. `O(n log n)` for `n`
+    /// pairs. Fails only if allocation fails.
     fn to_interval_set(self, alloc: Global) -> Result<IntervalSet<B>, AllocError> {
         of_pairs(alloc, self.as_slice())
     }
@@ -287,12 +287,13 @@ impl<B: Width, const N: usize> ToIntervalSet<B> for [(B, B); N] {
 
     ghost pairs = { λ a. map (λ p. (B.value p.0, B.value p.1)) a };
 
-    /// Returns true exactly when `Interval::in_range` is true of each pair.
+    /// Returns true exactly when `Interval::in_range` is true of each pair. `O(n)` for `n` pairs.
     fn in_range(&self) -> bool {
         are_in_range(self)
     }
 
-    /// Returns the set of the members of every pair. Fails only if allocation fails.
+    /// Returns the set of the members of every pair. `O(n log n)` for `n` pairs. Fails only if
+    /// allocation fails.
     fn to_interval_set(self, alloc: Global) -> Result<IntervalSet<B>, AllocError> {
         of_pairs(alloc, &self)
     }

@@ -88,6 +88,7 @@ impl<B: Width> ToIntervalSet<B> for &[RangeInclusive<B>] {
     ghost pairs = { λ s. map (λ range. (B.value (range_inclusive_start range), B.value (range_inclusive_end range))) s.now };
 
     /// Returns true exactly when `Interval::in_range` is true of the start and the end of each range.
+    /// `O(n)` for `n` ranges.
     fn in_range(&self) -> bool {
         are_in_range(self)
     }
@@ -106,6 +107,7 @@ impl<B: Width> ToIntervalSet<B> for Vec<RangeInclusive<B>> {
     ghost pairs = { λ v. map (λ range. (B.value (range_inclusive_start range), B.value (range_inclusive_end range))) v.items };
 
     /// Returns true exactly when `Interval::in_range` is true of the start and the end of each range.
+    /// `O(n)` for `n` ranges.
     fn in_range(&self) -> bool {
         are_in_range(self.as_slice())
     }
@@ -124,6 +126,7 @@ impl<B: Width, const N: usize> ToIntervalSet<B> for [RangeInclusive<B>; N] {
     ghost pairs = { λ a. map (λ range. (B.value (range_inclusive_start range), B.value (range_inclusive_end range))) a };
 
     /// Returns true exactly when `Interval::in_range` is true of the start and the end of each range.
+    /// `O(n)` for `n` ranges.
     fn in_range(&self) -> bool {
         are_in_range(self)
     }

@@ -12,9 +12,9 @@ use crate::width::Width;
 use ivl_merges::merges::intersection;
 use std::alloc::AllocError;
 
-/// Returns the common members of the runs left in two walks. Advances at most once for each of
-/// these runs, and reserves as many runs once. The result has the allocator of the first walk.
-/// Fails only if allocation fails.
+/// Returns the common members of the runs left in two walks. `O(n + m)` for these `n` and `m` runs:
+/// advances at most once for each, and reserves as many runs once. The result has the allocator of
+/// the first walk. Fails only if allocation fails.
 ///
 /// ```
 /// let (a, b) = (IntervalSet::new(alloc, 1, 5)?, IntervalSet::new(alloc, 4, 9)?);

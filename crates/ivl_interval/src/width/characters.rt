@@ -1,6 +1,6 @@
 //! The numbers of characters.
 //!
-//! The number of a character is its place among all characters, in ascending order and from 0. So
+//! The number of a character is its index among all characters, in ascending order and from 0. So
 //! `'\u{d7ff}'` and `'\u{e000}'`, with the surrogates between them, have consecutive numbers, and a
 //! range of characters is an interval of numbers.
 //!
@@ -23,7 +23,7 @@ ghost use Rattle.ivl_interval.specs.Characters.{character_number};
 /// assert_eq!(rt; number_of('\u{e000}') - number_of('\u{d7ff}'), 1);
 /// ```
 pub fn number_of(character: char) -> i128
-    // The result is the place of the character among all characters, from 0 to 0x10f7ff.
+    // The result is the index of the character among all characters, from 0 to 0x10f7ff.
     ensures value { result ≡ pos (character_number character) }
     ensures in_range { IsBetween (pos 0, pos 0x10f7ff) result }
 {
@@ -46,7 +46,7 @@ pub fn number_of(character: char) -> i128
 /// assert_eq!(rt; character_of(0x110000), None);
 /// ```
 pub fn character_of(number: i128) -> Option<char>
-    // The result is the character at this place among all characters, or `None` exactly when the place is not from 0 to
+    // The result is the character at this index among all characters, or `None` exactly when it is not from 0 to
     // 0x10f7ff.
     ensures known { IsSome result ↔ IsBetween (pos 0, pos 0x10f7ff) number }
     ensures same_number { IfSome result (λ c. pos (character_number c) ≡ number) }

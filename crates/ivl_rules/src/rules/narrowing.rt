@@ -31,8 +31,9 @@ type LeftOfTwo<B> = (Option<IntervalSet<B>>, Option<IntervalSet<B>>);
 /// The caller must ensure that the rule names each of its variables once, and that each has a domain. Check with
 /// [`Rule::is_over_different`] and [`Rule::first_unknown`].
 ///
-/// `AtMost` and `Differs` look at the ends of a domain and, where a member is lost, copy what is left of it.
-/// `Shifted` looks each run of one domain up in the other, and makes that anew where one is lost. `Sum` costs what
+/// Costs for an `AtMost` or a `Differs` a look at the ends of its domains, or a look-up where one is a single number,
+/// and a copy of what is left of one that loses a member; for a `Shifted` a look-up of each run of one domain in the
+/// other, and an intersection for one that loses a member; for a `Sum` what
 /// [`narrowed_by_sum`](ivl_store::store::narrowed_sets::narrowed_by_sum) costs. A domain that keeps its members is not
 /// written, and no rule of two variables allocates where none is lost.
 ///
@@ -51,6 +52,9 @@ type LeftOfTwo<B> = (Option<IntervalSet<B>>, Option<IntervalSet<B>>);
 pub fn narrow<B: Width>(domains: &mut [IntervalSet<B>], rule: &Rule) -> Result<bool, AllocError>
     requires different { AreDifferent rule.now }
     requires present { AllPresent (length domains.old) (places_of rule.now) }
+    // If it fails, the domains are unchanged. On success, a domain that the rule names keeps exactly the members that
+    // are in a point of the old domains which satisfies the rule, and the others stay. True exactly when some domain
+    // lost a member.
     ensures refused { OnErr result (domains.new ≡ domains.old) }
     ensures kept_count { OnOk result (length domains.new ≡ length domains.old) }
     ensures lost { IfOk result (λ b. IsTrue b ↔ LostMember (set_at domains.old) (set_at domains.new)) }
@@ -67,8 +71,8 @@ pub fn narrow<B: Width>(domains: &mut [IntervalSet<B>], rule: &Rule) -> Result<b
 }
 
 /// Returns true only if narrowing by the rule takes no member: by the ends of its domains, and of a `Differs` where
-/// one domain is a single number, by a look-up of what that forbids. Does not allocate. Of `Sum` and `Shifted`, and
-/// where a domain is empty, it returns false.
+/// one domain is a single number, by a look-up of what that forbids. Of `Sum` and `Shifted`, and where a domain is
+/// empty, it returns false. `O(1)`, or `O(log n)` for a look-up in `n` runs. Does not allocate.
 ///
 /// The caller must ensure that the rule names each of its variables once, and that each has a domain. Check with
 /// [`Rule::is_over_different`] and [`Rule::first_unknown`].
@@ -85,6 +89,7 @@ pub fn narrow<B: Width>(domains: &mut [IntervalSet<B>], rule: &Rule) -> Result<b
 pub fn takes_nothing<B: Width>(domains: &[IntervalSet<B>], rule: &Rule) -> bool
     requires different { AreDifferent rule.now }
     requires present { AllPresent (length domains.now) (places_of rule.now) }
+    // True only if each member of a domain that the rule names is in a point of the domains which satisfies the rule.
     ensures { result ≡ true → SupportsAll rule.now (set_at domains.now) }
 {
     match rule {
@@ -166,7 +171,8 @@ fn put<B: Width>(domains: &mut [IntervalSet<B>], i: usize, left: Option<Interval
     }
 }
 
-/// Returns what narrowing by a rule leaves of the domains at its places, with `None` in place of one that loses no member.
+/// Returns what narrowing by a rule leaves of the domains of its variables, in the order of [`Rule::places`], with
+/// `None` for one that loses no member. Costs what [`narrow`] costs.
 ///
 /// The caller must ensure that the rule names each of its variables once, and no variable without a domain. Check with
 /// [`Rule::is_over_different`] and [`Rule::first_unknown`].
@@ -189,6 +195,9 @@ pub fn narrowed_at_places<B: Width>(
 ) -> Result<LeftOfThree<B>, AllocError>
     requires different { AreDifferent rule.now }
     requires present { AllPresent (length domains.now) (places_of rule.now) }
+    // On success, what is left of the domains of the rule's variables, in their order: of each the members that are in
+    // a point of the domains which satisfies the rule, or `None` exactly when all are. A rule of two variables has
+    // `None` as its third.
     ensures { IfOk result (λ r. AreLeftAtPlaces B.whole (places_of rule.now) (HasPointAt rule.now (set_at domains.now)) domains.now r.0 r.1 r.2) }
 {
     let mut spares = Spares::new(domains[rule.places().x].allocator());
@@ -197,7 +206,7 @@ pub fn narrowed_at_places<B: Width>(
 
 /// Returns what [`narrowed_at_places`] returns, under its conditions. What a sum or an `AtMost` leaves is made in the memory
 /// of spare sets, as [`narrowed_by_sum_in`](ivl_store::store::narrowed_sets::narrowed_by_sum_in) and
-/// [`narrowed_to_window_in`] do.
+/// [`narrowed_to_window_in`] do. Costs what [`narrow`] costs.
 ///
 /// # Errors
 ///
@@ -218,6 +227,9 @@ pub fn narrowed_at_places_in<B: Width>(
 ) -> Result<LeftOfThree<B>, AllocError>
     requires different { AreDifferent rule.now }
     requires present { AllPresent (length domains.now) (places_of rule.now) }
+    // On success, what is left of the domains of the rule's variables, in their order: of each the members that are in
+    // a point of the domains which satisfies the rule, or `None` exactly when all are. A rule of two variables has
+    // `None` as its third.
     ensures { IfOk result (λ r. AreLeftAtPlaces B.whole (places_of rule.now) (HasPointAt rule.now (set_at domains.now)) domains.now r.0 r.1 r.2) }
 {
     match rule {
@@ -238,8 +250,9 @@ pub fn narrowed_at_places_in<B: Width>(
 }
 
 /// Returns the variable and the number that narrowing by the rule takes, where that is found by a look-up: of a
-/// `Differs` where one domain is a single number and the other one has what that forbids, and more. Does not allocate.
-/// Of other rules, and of other domains, it returns `None`, whatever narrowing takes.
+/// `Differs` where one domain is a single number and the other one has what that forbids, and more. Of other rules, and
+/// of other domains, it returns `None`, whatever narrowing takes. `O(1)`, or `O(log n)` for a look-up in `n` runs. Does
+/// not allocate.
 ///
 /// The caller must ensure that the rule names each of its variables once, and that each has a domain. Check with
 /// [`Rule::is_over_different`] and [`Rule::first_unknown`].
@@ -253,6 +266,7 @@ pub fn narrowed_at_places_in<B: Width>(
 pub fn lone_loss<B: Width>(domains: &[IntervalSet<B>], rule: &Rule) -> Option<(usize, B)>
     requires different { AreDifferent rule.now }
     requires present { AllPresent (length domains.now) (places_of rule.now) }
+    // Some: the rule is a `Differs`, and narrowing by it takes this number from this variable, and no other member.
     ensures one { IfSome result (λ taken. TakesOne rule.now (set_at domains.now) taken.0 (B.value taken.1)) }
     ensures differs { IfSome result (λ _. needs_singles rule.now ≡ true) }
 {

@@ -8,7 +8,7 @@ use thiserror::Error;
 
 /// The constraint that variables `x` and `y` add to variable `z`.
 ///
-/// A variable may stand in two or three places. Only [`Store::post_all`](super::Store::post_all)
+/// A variable may be named two or three times. Only [`Store::post_all`](super::Store::post_all)
 /// requires three different variables; check with [`distinct`](Constraint::distinct).
 #[derive(Clone, Copy, Debug, PartialEq, Eq)]
 pub struct Constraint {
@@ -18,13 +18,15 @@ pub struct Constraint {
 }
 
 impl Constraint {
-    /// Returns true exactly when `x`, `y` and `z` are three different variables.
+    /// Returns true exactly when `x`, `y` and `z` are three different variables. `O(1)`, does not
+    /// allocate.
     ///
     /// ```
     /// assert!(rt; Constraint { x: 0, y: 1, z: 2 }.distinct());
     /// assert!(rt; !Constraint { x: 0, y: 1, z: 0 }.distinct());
     /// ```
     pub fn distinct(&self) -> bool
+        // True exactly when `x`, `y` and `z` are three different variables.
         ensures { IsTrue result ↔ AreDistinct self.now }
     {
         self.x != self.y && self.x != self.z && self.y != self.z
@@ -44,13 +46,15 @@ impl Constraint {
         variable == self.x || variable == self.y || variable == self.z
     }
 
-    /// Returns the first of `x`, `y` and `z` that is not below `count`, or `None` if all are.
+    /// Returns the first of `x`, `y` and `z` that is not below `count`, or `None` if all are. `O(1)`,
+    /// does not allocate.
     ///
     /// ```
     /// assert!(rt; Constraint { x: 0, y: 5, z: 7 }.first_unknown(5) == Some(5));
     /// assert!(rt; Constraint { x: 0, y: 1, z: 2 }.first_unknown(3) == None);
     /// ```
     pub fn first_unknown(&self, count: usize) -> Option<usize>
+        // The result is the first of `x`, `y` and `z`, in this order, that is not below `count`, or `None` if all are.
         ensures { result ≡ first_unknown count self.now }
     {
         if self.x >= count {

@@ -76,6 +76,9 @@ pub fn narrowed_by_sum<B: Width>(
     y: &IntervalSet<B>,
     z: &IntervalSet<B>,
 ) -> Result<LeftOfThree<B>, AllocError>
+    // On success, what is left: of `x` the members that are a member of `z` less one of `y`, of `y` those that are a
+    // member of `z` less one of `x`, of `z` those that are a sum of both. `None` stands in place of a set exactly when
+    // all its members are left.
     ensures at_x { IfOk result (λ r. IsLeftOf B.whole x.now (Differences (Covers z.now) (Covers y.now)) r.0) }
     ensures at_y { IfOk result (λ r. IsLeftOf B.whole y.now (Differences (Covers z.now) (Covers x.now)) r.1) }
     ensures at_z { IfOk result (λ r. IsLeftOf B.whole z.now (Sums (Covers x.now) (Covers y.now)) r.2) }
@@ -84,8 +87,8 @@ pub fn narrowed_by_sum<B: Width>(
     narrowed_by_sum_in(x, y, z, &mut spares)
 }
 
-/// Returns what [`narrowed_by_sum`] returns. A set that is made by words, or that is a single run, is made in the memory
-/// of a spare one, as long as there is one.
+/// Returns what [`narrowed_by_sum`] returns, at the same cost. A set that is made by words, or that is a single run, is
+/// made in the memory of a spare one, as long as there is one.
 ///
 /// # Errors
 ///
@@ -107,6 +110,9 @@ pub fn narrowed_by_sum_in<B: Width>(
     z: &IntervalSet<B>,
     spares: &mut Spares<B>,
 ) -> Result<LeftOfThree<B>, AllocError>
+    // On success, what is left: of `x` the members that are a member of `z` less one of `y`, of `y` those that are a
+    // member of `z` less one of `x`, of `z` those that are a sum of both. `None` stands in place of a set exactly when
+    // all its members are left.
     ensures at_x { IfOk result (λ r. IsLeftOf B.whole x.now (Differences (Covers z.now) (Covers y.now)) r.0) }
     ensures at_y { IfOk result (λ r. IsLeftOf B.whole y.now (Differences (Covers z.now) (Covers x.now)) r.1) }
     ensures at_z { IfOk result (λ r. IsLeftOf B.whole z.now (Sums (Covers x.now) (Covers y.now)) r.2) }
@@ -368,6 +374,8 @@ pub fn narrowed_by<B: Width>(
     b: &IntervalSet<B>,
     op: Combined,
 ) -> Result<Option<IntervalSet<B>>, AllocError>
+    // On success, the members of `x` that are a sum, or with `Difference` a difference, of a member of `a` and one of
+    // `b`; `None` exactly when all are.
     ensures { IfOk result (IsLeftOf B.whole x.now (SumsBy op (Covers a.now) (Covers b.now))) }
 {
     let mut spares = Spares::new(x.allocator());
@@ -452,6 +460,7 @@ pub fn narrowed_to<B: Width>(
     x: &IntervalSet<B>,
     allowed: &IntervalSet<B>,
 ) -> Result<Option<IntervalSet<B>>, AllocError>
+    // On success, the members of `x` that are in `allowed`; `None` exactly when all are.
     ensures { IfOk result (IsLeftOf B.whole x.now (Covers allowed.now)) }
 {
     x.in_whole();

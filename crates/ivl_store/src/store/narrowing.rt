@@ -21,7 +21,7 @@ impl<B: Width> Store<B> {
     /// of both, all over the domains before the call. Returns true exactly when some domain lost a
     /// member.
     ///
-    /// A variable that stands in two places takes the rule of its last. For each domain looks for the
+    /// For a variable that is named twice the last of these holds. For each domain looks for the
     /// sums or differences of the other two in it, at the cost of
     /// [`results_in_set`](ivl_within::within::results_in_set); `O(1)` if all three are single runs. A
     /// domain that keeps its members is not written.
@@ -40,14 +40,20 @@ impl<B: Width> Store<B> {
     /// assert!(rt; store.domains()[0] == IntervalSet::new(alloc, 1, 3)?);
     /// ```
     pub fn narrow(&mut self, constraint: &Constraint) -> Result<bool, StoreFault>
+        // The fault names the first of `x`, `y` and `z` that is no variable of the store, exactly when there is one. If
+        // it fails, the domains are unchanged.
         ensures unknown { (i : ℕ) → (result ≡ Err (StoreFault.Variable i)) ↔ (first_unknown (length self.old) constraint.now ≡ Some i) }
         ensures refused { OnErr result (self.new ≡ self.old) }
 
+        // On success, `x` keeps its members that are a member of `z` less one of `y`, `y` those that are a member of
+        // `z` less one of `x`, and `z` those that are a sum of both, all by the old domains; for a variable that is
+        // named twice the last of these holds, and the other domains stay. True exactly when some domain lost a member.
         ensures kept_count { length self.new ≡ length self.old }
         ensures narrowed { OnOk result ((i : ℕ) (v : ℤ) → set_at self.new i v ↔ Narrowed constraint.now (set_at self.old) i v) }
         ensures lost { IfOk result (λ b. IsTrue b ↔ LostMember (set_at self.old) (set_at self.new)) }
 
-        // No supported family loses a member, so no solution is lost; with three variables, just the members of solutions are left.
+        // On success, domains within the old ones that the constraint supports lie within the new ones, so no solution
+        // is lost. Of three different variables, just the members of solutions are left.
         ensures families { OnOk result ((family : List (List (ℤ × ℤ))) → Supports constraint.now (set_at family) → LiesWithin (set_at family) (set_at self.old) → LiesWithin (set_at family) (set_at self.new)) }
         ensures solutions { OnOk result ((point : ℕ → ℤ) → IsSolution constraint.now (set_at self.old) point → IsSolution constraint.now (set_at self.new) point) }
         ensures exact { OnOk result (AreDistinct constraint.now → (i : ℕ) → Names constraint.now i → (v : ℤ) → set_at self.new i v ↔ HasSolutionAt constraint.now (set_at self.old) i v) }
@@ -140,8 +146,8 @@ impl<B: Width> Store<B> {
     /// constraint narrows any further; if each has three variables, the domains are the greatest
     /// ones in which every member is supported, whatever the order of the list.
     ///
-    /// Costs what its narrowings cost, and a pass over the constraints for each domain that
-    /// changes. Reserves one flag per constraint. A constraint of three different variables whose
+    /// Costs what its narrowings cost, and a pass over the constraints for each round and for each
+    /// domain that changes. Reserves one flag per constraint. A constraint of three different variables whose
     /// domains did not change since it narrowed them is skipped in `O(1)`.
     ///
     /// # Errors
@@ -164,21 +170,24 @@ impl<B: Width> Store<B> {
         constraints: &[Constraint],
         rounds: usize,
     ) -> Result<bool, StoreFault>
+        // The fault names the first index, in list order, without a variable, exactly when there is one. The domains
+        // are then unchanged.
         ensures unknown { (i : ℕ) → (result ≡ Err (StoreFault.Variable i)) ↔ (first_unknown_in (length self.old) constraints.now ≡ Some i) }
         ensures unchanged { (i : ℕ) → result ≡ Err (StoreFault.Variable i) → self.new ≡ self.old }
 
-        // Domains only lose members, and no supported family loses one.
+        // Domains only lose members. Domains within the old ones that each constraint supports lie within the new ones.
         ensures kept_count { length self.new ≡ length self.old }
         ensures keeps { Keeps constraints.now self.old self.new }
 
         // So no point that solves all the constraints is lost.
         ensures solutions { (point : ℕ → ℤ) → IsCommonSolution constraints.now (set_at self.old) point → IsCommonSolution constraints.now (set_at self.new) point }
 
-        // True: nothing is left to narrow, and with three variables each, the domains are the greatest supported family.
+        // True: no constraint narrows any further, and if each has three different variables, the domains are the
+        // greatest within the old ones that each constraint supports.
         ensures fixed { IfOk result (λ b. IsTrue b → All (IsFixed (set_at self.new)) constraints.now) }
         ensures greatest { IfOk result (λ b. IsTrue b → All AreDistinct constraints.now → IsGreatestFamily constraints.now (set_at self.old) (set_at self.new)) }
 
-        // False: each round removed a member.
+        // False: the domains lost at least `rounds` members.
         ensures fewer { IfOk result (λ b. b ≡ false → rounds + total B.whole self.new ≤ total B.whole self.old) }
 
         // What whole rounds leave: all of them if each removed a member, or those before the first that removed none.

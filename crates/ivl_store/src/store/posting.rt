@@ -26,6 +26,9 @@ impl<B: Width> Store<B> {
     /// all cuts, in which every member is supported by each constraint. They do not depend on the
     /// order of the posts, and each reply depends only on the posts up to its own.
     ///
+    /// Costs the cuts and the narrowings, and a pass over the constraints so far for each round of
+    /// narrowings and for each domain that changes.
+    ///
     /// The caller must ensure that each constraint has three different variables. Check with
     /// [`Constraint::distinct`], or [`all_distinct`](super::callers::all_distinct) for a list.
     ///
@@ -49,18 +52,23 @@ impl<B: Width> Store<B> {
     /// ```
     pub fn post_all(&mut self, posts: &[Post<B>]) -> Result<Vec<bool>, StoreFault>
         requires { All AreDistinct (constraints_of posts.now) }
+        // The fault names the first index, in list order, without a variable, exactly when there is one. The domains
+        // are then unchanged.
         ensures unknown { (i : ℕ) → (result ≡ Err (StoreFault.Variable i)) ↔ (first_unknown_in_posts (length self.old) posts.now ≡ Some i) }
         ensures unchanged { (i : ℕ) → result ≡ Err (StoreFault.Variable i) → self.new ≡ self.old }
 
-        // Domains only lose members, and no family loses one that the posts leave it.
+        // Domains only lose members. Domains within the old ones and the cuts that each constraint supports lie within
+        // the new ones.
         ensures kept_count { length self.new ≡ length self.old }
         ensures only_lost { LiesWithin (set_at self.new) (set_at self.old) }
         ensures families { (family : List (List (ℤ × ℤ))) → SupportedBy (constraints_of posts.now) (set_at family) → LiesWithin (set_at family) (CutBy posts.now (set_at self.old)) → LiesWithin (set_at family) (set_at self.new) }
 
-        // So no point that solves all the constraints is lost.
+        // So no point within the cuts that solves all the constraints is lost.
         ensures solutions { (point : ℕ → ℤ) → IsCommonSolution (constraints_of posts.now) (CutBy posts.now (set_at self.old)) point → IsCommonSolution (constraints_of posts.now) (set_at self.new) point }
 
-        // Each reply speaks of the greatest family for the posts up to its own; the domains are that for all of them.
+        // On success, there is one reply for each post, true exactly when the greatest domains for the posts up to it
+        // have an empty one. The domains are the greatest for all posts: of those within the old ones and the cuts, the
+        // greatest that each constraint supports.
         ensures replies { IfOk result (λ replies. AnswersPosts posts.now self.old replies.items) }
         ensures left { OnOk result (IsLeftBy posts.now (set_at self.old) (set_at self.new)) }
 

@@ -8,8 +8,8 @@ ghost use Rattle.ivl_store.specs.Solutions.{AreDistinct};
 use super::Constraint;
 use std::alloc::{AllocError, Global};
 
-/// Whether a member was lost at x, at y and at z; a variable in two places has the flag of its
-/// last.
+/// Whether a member was lost at x, at y and at z; a variable that is named twice has its flag at the
+/// last of these.
 #[derive(Clone, Copy)]
 pub struct Lost {
     pub x: bool,
@@ -18,12 +18,13 @@ pub struct Lost {
 }
 
 impl Lost {
-    /// Returns true exactly when a member was lost at one of the three.
+    /// Returns true exactly when a member was lost at one of the three. `O(1)`.
     ///
     /// ```
     /// assert!(rt; Lost { x: false, y: true, z: false }.any());
     /// ```
     pub fn any(self) -> bool
+        // True exactly when a member was lost at one of the three.
         ensures { result ≡ any_lost self }
     {
         self.x || self.y || self.z

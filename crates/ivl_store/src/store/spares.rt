@@ -35,7 +35,7 @@ impl<B: Width> Spares<B> {
         }
     }
 
-    /// Makes room for 256 sets, if there is none. Fails only if allocation fails; the spares are then unchanged.
+    /// Makes room for 256 sets, if there is none. `O(1)`. Fails only if allocation fails; the spares are then unchanged.
     pub fn make_room(&mut self) -> Result<(), AllocError> {
         if self.sets.capacity() == 0 {
             self.sets.reserve(SETS)?;
@@ -46,6 +46,7 @@ impl<B: Width> Spares<B> {
     /// Returns an empty set: the one that was kept last, cleared, so that it has the memory that it had, or a new one
     /// if there is none. `O(1)`. Does not allocate.
     pub fn take(&mut self, alloc: Global) -> IntervalSet<B>
+        // The result is the empty set.
         ensures { result ≡ [] }
     {
         match self.sets.pop() {

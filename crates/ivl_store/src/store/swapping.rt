@@ -28,6 +28,8 @@ impl<B: Width> Store<B> {
     pub fn swap(&mut self, i: usize, left: Option<IntervalSet<B>>) -> Option<IntervalSet<B>>
         requires known { i < length self.old }
         requires range { (s : List (ℤ × ℤ)) → left ≡ Some s → IsRunListIn B.whole s }
+        // The set stands in place of the domain, or with `None` the domain stays; the others stay. What is returned,
+        // swapped in again, gives back the old domains.
         ensures put { self.new ≡ narrowed_at self.old i left }
         ensures back { narrowed_at self.new i result ≡ self.old }
     {
@@ -46,6 +48,7 @@ impl<B: Width> Store<B> {
     /// assert!(rt; store.domains()[0] == IntervalSet::new(alloc, 5, 6)?);
     /// ```
     pub fn replace(&mut self, i: usize, set: IntervalSet<B>)
+        // The set stands in place of the domain, if there is such a variable; the others stay.
         ensures { self.new ≡ slice_set self.old i set }
     {
         set.in_whole();
@@ -80,8 +83,12 @@ impl<B: Width> Store<B> {
     /// assert!(rt; store.domains()[0] == IntervalSet::new(alloc, 0, 2)?);
     /// ```
     pub fn take_out(&mut self, i: usize, interval: Interval<B>) -> Result<(), AllocError>
+        // On success, the domain has its members outside of the interval. The other domains stay, whatever the result,
+        // and all stay if there is no such variable.
         ensures taken { OnOk result ((j : ℕ) (v : ℤ) → set_at self.new j v ↔ (set_at self.old j v × (j ≡ i → ¬ (IsBetween interval v)))) }
         ensures back { slice_set self.new i (slice_index_or self.old i []) ≡ self.old }
+
+        // If it fails, the domains are unchanged.
         ensures refused { OnErr result (self.new ≡ self.old) }
     {
         if i >= self.domains.len() {
@@ -102,6 +109,7 @@ impl<B: Width> Store<B> {
     /// assert!(rt; store.domains().is_empty());
     /// ```
     pub fn drop_variable(&mut self)
+        // The last domain is gone, if there is one, and the others stay.
         ensures { self.new ≡ take (length self.old - 1) self.old }
     {
         if let Some(domain) = self.domains.pop() {
