@@ -24,7 +24,8 @@ import zipfile
 
 HERE = os.path.dirname(os.path.abspath(__file__))
 TOP = os.path.dirname(os.path.dirname(HERE))
-SOURCES = ("intervallum/__init__.py", "intervallum/_calls.py", "intervallum/_dates.py", "intervallum/_mutable.py", "intervallum/_runs.py", "intervallum/py.typed")
+MODULES = ("__init__", "_calls", "_dates", "_forms", "_given", "_handles", "_model", "_mutable", "_runs")
+SOURCES = (*("intervallum/%s.py" % name for name in MODULES), "intervallum/py.typed")
 LIBRARY = "intervallum/libintervallum.so"
 LICENSES = ("LICENSE-APACHE", "LICENSE-MIT")
 # what an archive of the sources has of bindings/rust, in its folder `rust`
