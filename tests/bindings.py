@@ -994,10 +994,15 @@ def least_time(call):
     return min(times) * 1e6
 
 
+def models(count):
+    """In a file of its own, for what it does with signals."""
+    subprocess.run([sys.executable, os.path.join(TOP, "tests/bindings_models.py"), str(count)], check=True)
+
+
 if __name__ == "__main__":
     calls = {
         "facts": facts, "sets": sets, "fuzz": fuzz, "threads": threads, "arrays": arrays, "misuse": misuse, "changing": changing, "maps": maps, "dates": dates, "forms": forms,
         "processes": processes, "examples": examples, "speed": speed,
-        "header": header,
+        "header": header, "models": models,
     }
     calls[sys.argv[1]](*(int(word) if word.isdigit() else word for word in sys.argv[2:]))
