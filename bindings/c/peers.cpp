@@ -1,0 +1,189 @@
+// Times ivl::set and ivl::paged_set beside Boost.ICL and CRoaring, where these are installed, over the same runs: bindings/peers compiles
+// it, and makes a table of what it prints. A line is a task, the number of runs, a kind of set, and nanoseconds: the least of five
+// rounds. An edit is half of the time of adding a number and taking it out.
+#include "intervallum_handles.hpp"
+
+#include <chrono>
+#include <cstdio>
+#include <cstdlib>
+#include <vector>
+
+#if defined(__has_include)
+#if __has_include(<boost/icl/interval_set.hpp>)
+#define HAS_BOOST 1
+#include <boost/icl/interval_set.hpp>
+#endif
+#if __has_include(<roaring/roaring.h>)
+#define HAS_ROARING 1
+#include <roaring/roaring.h>
+#endif
+#endif
+
+using number = std::int64_t;
+using runs_of = std::vector<ivl::run<number>>;
+
+static volatile std::uint64_t kept; // so that no answer is left out
+
+struct generator {
+    std::uint64_t state;
+    std::uint32_t operator()() { return static_cast<std::uint32_t>((state = state * 6364136223846793005u + 1442695040888963407u) >> 33); }
+};
+
+// Runs of 1 to 8 numbers with gaps of 1 to 8.
+static runs_of drawn(std::size_t count, std::uint64_t seed) {
+    generator next{seed};
+    runs_of made;
+    number at = 0;
+    for (std::size_t i = 0; i < count; ++i) {
+        number lower = at + 2 + next() % 8;
+        at = lower + next() % 8;
+        made.push_back({lower, at});
+    }
+    return made;
+}
+
+// What each kind of set does.
+struct list {
+    static constexpr const char *name = "ivl::set";
+    using set = ivl::set<number>;
+    static set of(const runs_of &runs) { return set(runs); }
+    static std::uint64_t unite(const set &a, const set &b) { return (a | b).size(); }
+    static std::uint64_t intersect(const set &a, const set &b) { return (a & b).size(); }
+    static bool contains(const set &a, number v) { return a.contains(v); }
+    static void insert(set &a, number v) { a.insert(v); }
+    static void erase(set &a, number v) { a.erase(v); }
+};
+
+struct pages : list {
+    static constexpr const char *name = "ivl::paged_set";
+    using set = ivl::paged_set<number>;
+    static set of(const runs_of &runs) { return set(ivl::set<number>(runs)); }
+    static std::uint64_t unite(const set &a, const set &b) { return (a | b).size(); }
+    static std::uint64_t intersect(const set &a, const set &b) { return (a & b).size(); }
+    static bool contains(const set &a, number v) { return a.contains(v); }
+    static void insert(set &a, number v) { a.insert(v); }
+    static void erase(set &a, number v) { a.erase(v); }
+};
+
+#ifdef HAS_BOOST
+struct boost_icl {
+    static constexpr const char *name = "Boost.ICL";
+    using set = boost::icl::interval_set<number>;
+    using interval = set::interval_type;
+    static set of(const runs_of &runs) {
+        set made;
+        for (auto [lower, upper] : runs)
+            made.insert(made.end(), interval::right_open(lower, upper + 1));
+        return made;
+    }
+    static std::uint64_t unite(const set &a, const set &b) { return (a + b).iterative_size(); }
+    static std::uint64_t intersect(const set &a, const set &b) { return (a & b).iterative_size(); }
+    static bool contains(const set &a, number v) { return boost::icl::contains(a, v); }
+    static void insert(set &a, number v) { a.add(interval::right_open(v, v + 1)); }
+    static void erase(set &a, number v) { a.subtract(interval::right_open(v, v + 1)); }
+};
+#endif
+
+#ifdef HAS_ROARING
+struct roaring {
+    static constexpr const char *name = "CRoaring";
+    struct set {
+        std::shared_ptr<roaring_bitmap_t> at;
+    };
+    static set held(roaring_bitmap_t *at) { return {std::shared_ptr<roaring_bitmap_t>(at, [](roaring_bitmap_t *it) { roaring_bitmap_free(it); })}; }
+    static std::uint32_t as(number v) { return static_cast<std::uint32_t>(v); }
+    static set of(const runs_of &runs) {
+        set made = held(roaring_bitmap_create());
+        for (auto [lower, upper] : runs)
+            roaring_bitmap_add_range_closed(made.at.get(), as(lower), as(upper));
+        roaring_bitmap_run_optimize(made.at.get());
+        return made;
+    }
+    static std::uint64_t unite(const set &a, const set &b) { return held(roaring_bitmap_or(a.at.get(), b.at.get())).at->high_low_container.size; }
+    static std::uint64_t intersect(const set &a, const set &b) { return held(roaring_bitmap_and(a.at.get(), b.at.get())).at->high_low_container.size; }
+    static bool contains(const set &a, number v) { return roaring_bitmap_contains(a.at.get(), as(v)); }
+    static void insert(set &a, number v) { roaring_bitmap_add(a.at.get(), as(v)); }
+    static void erase(set &a, number v) { roaring_bitmap_remove(a.at.get(), as(v)); }
+};
+#endif
+
+// The least time of a call in five rounds, each of which takes a twentieth of a second or one call.
+template <class Call> static double nanoseconds(Call call) {
+    using clock = std::chrono::steady_clock;
+    double least = 1e18;
+    for (int round = 0; round < 5; round++) {
+        auto start = clock::now();
+        double passed = 0;
+        long calls = 0;
+        while (passed < 5e7) {
+            call();
+            ++calls;
+            passed = std::chrono::duration<double, std::nano>(clock::now() - start).count();
+        }
+        least = std::min(least, passed / static_cast<double>(calls));
+    }
+    return least;
+}
+
+static void print(const char *task, std::size_t runs, const char *kind, double time) {
+    std::printf("%s\t%zu\t%s\t%.1f\n", task, runs, kind, time);
+    std::fflush(stdout);
+}
+
+template <class Kind> static void time_all(std::size_t count) {
+    const runs_of first = drawn(count, 1), second = drawn(count, 2);
+    auto a = Kind::of(first), b = Kind::of(second);
+    const number highest = first.back().upper;
+    generator next{5};
+    std::vector<number> numbers;
+    for (int i = 0; i < 1000; ++i)
+        numbers.push_back(static_cast<number>(next()) % (highest + 1));
+    print("make of runs", count, Kind::name, nanoseconds([&] { auto made = Kind::of(first); kept = Kind::contains(made, 7); }));
+    print("union", count, Kind::name, nanoseconds([&] { kept = Kind::unite(a, b); }));
+    print("intersection", count, Kind::name, nanoseconds([&] { kept = Kind::intersect(a, b); }));
+    print("search", count, Kind::name, nanoseconds([&] {
+        std::uint64_t hits = 0;
+        for (number v : numbers)
+            hits += Kind::contains(a, v);
+        kept = hits;
+    }) / 1000);
+    std::vector<number> free;
+    for (number v : numbers)
+        if (!Kind::contains(a, v))
+            free.push_back(v);
+    print("edit", count, Kind::name, nanoseconds([&] {
+        for (number v : free) {
+            Kind::insert(a, v);
+            Kind::erase(a, v);
+        }
+    }) / (2.0 * static_cast<double>(free.size())));
+    // of an empty set, by numbers at random; a list takes the square of their number
+    if (std::is_same_v<Kind, list> && count > 100000)
+        return;
+    generator draw{9};
+    std::vector<number> added;
+    for (std::size_t i = 0; i < count; ++i)
+        added.push_back(static_cast<number>(draw() % (10 * count)));
+    print("fill at random", count, Kind::name, nanoseconds([&] {
+        auto made = Kind::of({});
+        for (number v : added)
+            Kind::insert(made, v);
+        kept = Kind::contains(made, 7);
+    }));
+}
+
+template <class... Kinds> static void time_kinds() {
+    for (std::size_t count : {10, 1000, 1000000})
+        (time_all<Kinds>(count), ...);
+}
+
+int main() {
+    time_kinds<list, pages
+#ifdef HAS_BOOST
+               , boost_icl
+#endif
+#ifdef HAS_ROARING
+               , roaring
+#endif
+               >();
+}
