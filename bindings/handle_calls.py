@@ -4,16 +4,15 @@ import re
 TABLE = "bindings/handles.txt"
 KINDS = ("set", "map", "solver", "solutions")
 NUMBERS = {"i64": "int64_t", "u64": "uint64_t"}
-PAIRS = {"i64": "PairI64", "u64": "PairU64"}
 
-# Of a parameter: what it is in C, in Rust over pairs `R`, how Rust takes it before the call, what Python gives. KIND is that of the
+# Of a parameter: what it is in C, in Rust over bounds `B` and pairs `R`, how Rust takes it before the call, what Python gives. KIND is that of the
 # handle, and OF(name) in C the name of a type of bounds.
 LIST = "is_list(%s, n)?; let %s = unsafe { list(%s, n) };"
 PARAMETERS = {
-    "member": ("IVL_NUMBER v", "v: R::Bound", "let v = member(v)?;", ["NUMBER"]),
-    "number": ("IVL_NUMBER v", "v: R::Bound", "", ["NUMBER"]),
-    "run": ("IVL_NUMBER lower, IVL_NUMBER upper", "lower: R::Bound, upper: R::Bound", "let run = run(lower, upper)?;", ["NUMBER", "NUMBER"]),
-    "window": ("IVL_NUMBER lower, IVL_NUMBER upper", "lower: R::Bound, upper: R::Bound", "let window = window(lower, upper);", ["NUMBER", "NUMBER"]),
+    "member": ("IVL_NUMBER v", "v: B", "let v = member(v)?;", ["NUMBER"]),
+    "number": ("IVL_NUMBER v", "v: B", "", ["NUMBER"]),
+    "run": ("IVL_NUMBER lower, IVL_NUMBER upper", "lower: B, upper: B", "let run = run(lower, upper)?;", ["NUMBER", "NUMBER"]),
+    "window": ("IVL_NUMBER lower, IVL_NUMBER upper", "lower: B, upper: B", "let window = window(lower, upper);", ["NUMBER", "NUMBER"]),
     "count": ("uint64_t count", "count: u64", "let count = above_0(count)?;", ["ctypes.c_uint64"]),
     "index": ("uint64_t index", "index: u64", "", ["ctypes.c_uint64"]),
     "value": ("uint64_t value", "value: u64", "", ["ctypes.c_uint64"]),
@@ -28,7 +27,7 @@ PARAMETERS = {
     "variables": ("const int64_t *variables, size_t n", "variables: *const i64, n: usize", LIST % (3 * ("variables",)), ["POINTER", "COUNT"]),
     "tasks": ("const ivl_task *tasks, size_t n", "tasks: *const Task, n: usize", LIST % (3 * ("tasks",)), ["POINTER", "COUNT"]),
     "limits": ("const ivl_limits *limits", "limits: *const SearchLimits", "let limits = unsafe { limits_at(limits) };", ["POINTER"]),
-    "numbers": ("IVL_NUMBER *numbers, size_t room", "numbers: *mut R::Bound, room: usize", "is_list(numbers, room)?; let numbers = unsafe { buffer(numbers, room) };", ["POINTER", "COUNT"]),
+    "numbers": ("IVL_NUMBER *numbers, size_t room", "numbers: *mut B, room: usize", "is_list(numbers, room)?; let numbers = unsafe { buffer(numbers, room) };", ["POINTER", "COUNT"]),
     "flag": ("bool stops", "stops: bool", "", ["ctypes.c_bool"]),
 }
 # of an answer: where it is written in C, in Rust, and how Rust tells it
@@ -38,16 +37,16 @@ ANSWERS = {
     "code": ("", "", "(%s).map(|()| 0)"),
     "told": ("", "", "%s"),
     "list": ("", "", "Ok(tell(%s, out))"),
-    "number": ("IVL_NUMBER *found", "found: *mut R::Bound", "unsafe { found_at(found, %s) }"),
+    "number": ("IVL_NUMBER *found", "found: *mut B", "unsafe { found_at(found, %s) }"),
     "value": ("uint64_t *found", "found: *mut u64", "unsafe { found_at(found, %s) }"),
     "run": ("OF(pair) *found", "found: *mut R", "unsafe { found_at(found, (%s).map(R::of_run)) }"),
-    "entry": ("OF(entry) *found", "found: *mut Entry<R::Bound>", "unsafe { found_at(found, (%s).map(Entry::of)) }"),
+    "entry": ("OF(entry) *found", "found: *mut Entry<B>", "unsafe { found_at(found, (%s).map(Entry::of)) }"),
     "size": ("uint64_t *size", "size: *mut u64", "unsafe { size_at(size, %s) }"),
     "counted": ("uint64_t *count", "count: *mut u64", "unsafe { counted_at(count, %s) }"),
 }
 for made in KINDS:
     failing = "%s" if made.startswith("sol") else "(%s).map_err(out_of_memory)"
-    place = "made: *mut *mut %s<R::Bound>" % made.capitalize()
+    place = "made: *mut *mut %s<B>" % made.capitalize()
     ANSWERS["made " + made] = "OF(%s) **made" % made, place, "unsafe { made_at(made, || %s) }" % failing
 
 
@@ -65,7 +64,7 @@ class Call:
     def words(self, handle, place):
         """The words of the parameters, of one language."""
         words = [handle.get(self.takes, ""), *(PARAMETERS[one][place] for one in self.parameters), ANSWERS[self.answer][place]]
-        rust = f"{self.kind.capitalize()}<R::Bound>"
+        rust = f"{self.kind.capitalize()}<B>"
         return ", ".join(word.replace("KIND", self.kind).replace("HANDLE", rust) for word in words if word)
 
     def in_c(self):
@@ -74,7 +73,6 @@ class Call:
         return f"IVL_NODISCARD int64_t IVL_OF({self.kind}_{self.name})({words});\n"
 
     def in_rust(self):
-        """The call over any type of bounds, and the functions of each type that make it."""
         words = self.words({"reads": "it: *const HANDLE", "edits": "it: *mut HANDLE"}, 1)
         taken = [] if self.takes == "none" else [f"let it = unsafe {{ {self.takes}(it) }}?;"]
         if self.takes == "edits" and "other" in self.parameters:
@@ -87,14 +85,7 @@ class Call:
         if len(taken) > 1 and "copied" in taken[0]:
             taken = [line.replace("{ reads(other) }?", "{ other_than(&copied, other) }?") for line in taken]
         body = "".join(f"        {line}\n" for line in taken)
-        name, told = f"{self.kind}_{self.name}", ANSWERS[self.answer][2] % self.does
-        given = ", ".join(word.split(":")[0] for word in words.split(", ") if word)
-        exported = ""
-        for bounds, pair in PAIRS.items():
-            typed = re.sub(r"(\*const|\*mut) R\b", rf"\1 {pair}", words.replace("R::Bound", bounds))
-            exported += (f"#[unsafe(no_mangle)]\nunsafe extern \"C\" fn ivl_{name}_{bounds}({typed}) -> i64 {{\n"
-                         f"    unsafe {{ {name}::<{pair}>({given}) }}\n}}\n")
-        return f"unsafe fn {name}<R: OfRun>({words}) -> i64 {{\n    guarded(|| {{\n{body}        {told}\n    }})\n}}\n{exported}"
+        return exported(f"{self.kind}_{self.name}", words, " -> i64", f"    guarded(|| {{\n{body}        {ANSWERS[self.answer][2] % self.does}\n    }})\n")
 
     def in_python(self):
         words = [] if self.takes == "none" else ["POINTER"]
@@ -102,6 +93,12 @@ class Call:
             words += PARAMETERS[one][3]
         words += ["POINTER"] if ANSWERS[self.answer][0] else []
         return f'    "{self.kind}_{self.name}": ([{", ".join(words)}], ctypes.c_int64),\n'
+
+
+def exported(name, words, answer, body):
+    """A function that the library exports for a type of bounds."""
+    return (f"#[unsafe(export_name = concat!(\"ivl_{name}_\", $bounds))]\n"
+            f"unsafe extern \"C\" fn {name}({words}){answer} {{\n{body}}}\n")
 
 
 def calls(text):
@@ -129,16 +126,17 @@ def header_of_type(all_calls, template, head):
 
 
 def by_cargo(all_calls, head):
-    frees = "".join(f"""#[unsafe(no_mangle)]
-unsafe extern "C" fn ivl_{kind}_free_{bounds}(it: *mut {kind.capitalize()}<{bounds}>) {{
-    unsafe {{ free(it) }}
-}}
-""" for kind in KINDS for bounds in NUMBERS)
+    frees = [exported(f"{kind}_free", f"it: *mut {kind.capitalize()}<B>", "", "    unsafe { free(it) }\n") for kind in KINDS]
+    text = "\n".join(frees + [call.in_rust() for call in all_calls])
+    text = "".join(f"        {line}\n" if line else "\n" for line in text.splitlines())
     return (f"// {head}\n//! The calls of handles: each tests what it is given, and makes the call of the proved set, map or search.\n"
             "use super::handles::*;\nuse super::solver::{Solutions, Solver, Task, best};\nuse super::{buffer, list};\n"
             "use intervallum::proved::Global;\nuse intervallum::proved::ivl_buffers::pair::{PairI64, PairU64};\n"
             "use intervallum::proved::ivl_buffers::writing::tell;\nuse intervallum::proved::prelude::*;\n\n"
-            + frees + "\n" + "\n".join(call.in_rust() for call in all_calls))
+            "/// The calls of one type of bounds, whose names end with it.\nmacro_rules! calls {\n"
+            "    ($module:ident, $bound:ty, $pair:ty, $bounds:literal) => {\n    mod $module {\n        use super::*;\n\n"
+            "        type B = $bound;\n        type R = $pair;\n\n" + text + "    }\n    };\n}\n\n"
+            "calls!(of_i64, i64, PairI64, \"i64\");\ncalls!(of_u64, u64, PairU64, \"u64\");\n")
 
 
 def in_cpp(all_calls, head):
