@@ -1,11 +1,11 @@
 //! What the calls of handles are made of: how a pointer is tested, a number, and an answer told. No function here has a loop.
+use super::solver::end_of;
 use intervallum::proved::ivl_buffers::pair::{Pair, PairI64, PairU64};
 use intervallum::proved::ivl_buffers::reading::{are_inside, set_of};
 use intervallum::proved::ivl_search::search::{End, Limits};
 use intervallum::proved::prelude::*;
 use intervallum::proved::{AllocError, Global};
 use intervallum::set::Piece;
-use super::solver::end_of;
 use std::alloc::{Layout, alloc, dealloc};
 use std::panic::{AssertUnwindSafe, catch_unwind};
 
@@ -164,7 +164,10 @@ pub struct SearchLimits {
 pub unsafe fn limits_at(limits: *const SearchLimits) -> Limits {
     let given = unsafe { limits.as_ref() };
     let solutions = given.map_or(u64::MAX, |it| it.solutions);
-    Limits { solutions: usize::try_from(solutions).unwrap_or(usize::MAX), nodes: given.map_or(1_000_000, |it| it.nodes) }
+    Limits {
+        solutions: usize::try_from(solutions).unwrap_or(usize::MAX),
+        nodes: given.map_or(1_000_000, |it| it.nodes),
+    }
 }
 
 // ---- what is told

@@ -19,7 +19,9 @@ static MEMORY: Memory = Memory;
 /// Whether this thread is in a search that is to stop.
 fn is_refused() -> bool {
     // Safety: the flag is there until the search ends, which then puts back what was told before
-    STOPS.try_with(|stops| unsafe { stops.get().as_ref() }.is_some_and(|flag| flag.load(Ordering::Relaxed))).unwrap_or(false)
+    STOPS
+        .try_with(|stops| unsafe { stops.get().as_ref() }.is_some_and(|flag| flag.load(Ordering::Relaxed)))
+        .unwrap_or(false)
 }
 
 unsafe impl GlobalAlloc for Memory {

@@ -258,7 +258,11 @@ impl<B: Width> Solver<B> {
 
     /// Gives the least and the greatest of the sums of the first two terms, of the first three and so on, but not of all. Fails if some
     /// may be outside the range. In a solution they are on the way from 0 to the total, if all terms have the same sign.
-    fn partial_sums(&self, terms: &[usize], mut use_ends: impl FnMut(i128, i128) -> Result<(), AllocError>) -> Result<(), i64> {
+    fn partial_sums(
+        &self,
+        terms: &[usize],
+        mut use_ends: impl FnMut(i128, i128) -> Result<(), AllocError>,
+    ) -> Result<(), i64> {
         let is_empty = terms.iter().any(|term| self.ends(*term).is_none());
         let ends = |term: &usize| self.ends(*term).unwrap_or_default();
         let (least, most) = (B::min_value().number(), B::max_value().number());
