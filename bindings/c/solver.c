@@ -1,29 +1,12 @@
 /* Models behind handles beside all points of four variables, with the numbers near both ends of each type and near zero; what a null
    pointer, an index of no variable, and a variable that stands twice get; and a search that is told to stop.
    solver [ROUNDS [SEED]]; its last line tells how many calls agreed. */
+#include "agree.h"
 #include "intervallum_handles.h"
 
 #include <pthread.h>
-#include <stdio.h>
-#include <stdlib.h>
 
 enum { VARIABLES = 4, SPAN = 5, POINTS = SPAN * SPAN * SPAN * SPAN, RULES = 3 };
-
-static unsigned long long state, calls;
-
-static unsigned draw(unsigned below) {
-    state = state * 6364136223846793005u + 1442695040888963407u;
-    return (unsigned)(state >> 33) % below;
-}
-
-static void check(int is_so, const char *what, int line) {
-    calls++;
-    if (is_so)
-        return;
-    printf("failed: %s in line %d, after %llu calls\n", what, line, calls);
-    exit(1);
-}
-#define AGREE(call, expected) check((call) == (expected), #call, __LINE__)
 
 /* The place of a variable at a point. */
 static unsigned place_of(unsigned point, unsigned variable) {
@@ -279,8 +262,7 @@ static void stops(void) {
 }
 
 int main(int count, char **words) {
-    unsigned long rounds = count > 1 ? strtoul(words[1], NULL, 10) : 300;
-    state = count > 2 ? strtoull(words[2], NULL, 10) : 1;
+    unsigned long rounds = rounds_of(count, words);
     misuse_i64(INT64_MIN, -INT64_MAX, INT64_MAX);
     misuse_u64(UINT64_MAX, 0, UINT64_MAX - 1);
     stops();
