@@ -32,6 +32,6 @@ best = day.minimize(end).solution
 assert best, "there is a plan"
 print(f"copy at {best[copy]}, check at {best[check]}, transfer at {best[transfer]}, over at {best[end]}")
 day.restrict(end, range(13))
-print(f"{day.count().count} plans are over by 12")
+print(f"{day.count().number} plans are over by 12")
 day.restrict(end, range(9))
 print(f"over by 8: {'yes' if day.first().solution else 'no'}")

@@ -4,6 +4,7 @@ from __future__ import annotations
 
 import collections.abc
 import ctypes
+import dataclasses
 import enum
 from array import array as Numbers
 from typing import Any, Iterable, Iterator, NamedTuple, SupportsIndex, Union, overload
@@ -16,7 +17,8 @@ from ._handles import Handle, new
 Domain = Union[SupportsIndex, Iterable[Item]]
 
 
-class Variable(NamedTuple):
+@dataclasses.dataclass(frozen=True, order=True, slots=True)
+class Variable:
     """A variable of a model: its index, from 0 in the order in which the variables were added."""
 
     index: int
@@ -107,7 +109,7 @@ class Best(NamedTuple):
 class Count(NamedTuple):
     """How many solutions a search found, and why it ended."""
 
-    count: int
+    number: int
     end: End
 
 
@@ -243,7 +245,7 @@ class Model:
         >>> model = Model()
         >>> model.all_different(model.variables(3, range(1, 11)))
         >>> model.count()
-        Count(count=720, end=<End.ALL: 0>)
+        Count(number=720, end=<End.ALL: 0>)
         """
         limits, found = _limits(most, nodes), ctypes.c_uint64()
         end = self._search(lambda: self._told("count", ctypes.addressof(limits), ctypes.addressof(found)))
