@@ -4,7 +4,7 @@ use intervallum::{IntervalMap, PagedSet};
 
 pub fn main() {
     // the free ports in pages, and who holds the others
-    let mut free = PagedSet::from([(1024, 65_535)]);
+    let mut free = PagedSet::from([(1024u32, 65_535)]);
     let mut owners = IntervalMap::new();
     for (name, count) in [("anna", 8), ("bela", 4), ("cleo", 2)] {
         let ports = free.take_first_fit(count).expect("there are enough ports");
