@@ -6,7 +6,7 @@ pub fn main() {
     // the free ports in pages, and who holds the others
     let mut free = PagedSet::from([(1024u32, 65_535)]);
     let mut owners = IntervalMap::new();
-    for (name, count) in [("anna", 8), ("bela", 4), ("cleo", 2)] {
+    for (name, count) in [("anna", 8u32), ("bela", 4), ("cleo", 2)] {
         let ports = free.take_first_fit(count).expect("there are enough ports");
         owners.insert(ports, name);
     }
@@ -18,7 +18,7 @@ pub fn main() {
         println!("{}..{} {name}", ports.start(), ports.end());
     }
     println!("{} ports are free, in {} runs", free.size(), free.interval_count());
-    let room = owners.first_fit(1024..=2000, 5).expect("there is room");
+    let room = owners.first_fit(1024..=2000, 5u32).expect("there is room");
     println!("the lowest 5 without an owner: {}..{}", room.start(), room.end());
 
     // a copy of 3 hours, then a check of 2; a transfer of 4, from hour 5 on; one at a time, and over as soon as they can be
