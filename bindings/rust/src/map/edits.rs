@@ -130,8 +130,9 @@ impl<T: Width, V: Clone + Eq> IntervalMap<T, V> {
     }
 
     /// Changes the values of the numbers of a range: each that has a value gets what a function returns for it. The function is asked
-    /// once for each entry that has numbers of the range, in ascending order. `O(n)`: makes the list of entries anew, and copies the other
-    /// values. If the function panics, the map is unchanged.
+    /// once for each entry that has numbers of the range, in ascending order. `O(log n + k)` for the `k` entries of the range, or `O(n)` if the
+    /// number of entries changes; copies the values of the entries next to the range and of those that it splits. If the function panics,
+    /// the map is unchanged.
     ///
     /// ```
     /// # use intervallum::IntervalMap;

@@ -311,7 +311,7 @@ impl<T: Width, V: Clone + Eq> IntervalMap<T, V> {
     }
 
     /// Returns the lowest `count` consecutive numbers of a range that have no value, and are within the limits, or `None` if there are
-    /// none. `count` must be above 0. `O(log n + k)` for the `k` entries in the range: makes the set of the gaps.
+    /// none. `count` must be above 0. `O(log n + k)` for the `k` entries of the range below what it finds. Does not allocate.
     ///
     /// ```
     /// # use intervallum::IntervalMap;
