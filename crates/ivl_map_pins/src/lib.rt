@@ -543,6 +543,17 @@ pub fn fits_first<B: Width, V: MapValue>(
     map.first_fit(window, count)
 }
 
+/// A search for room cannot fail.
+pub fn fits_without_memory<B: Width, V: MapValue>(
+    map: &IntervalMap<B, V>,
+    window: Interval<B>,
+    count: B::Output,
+) -> Option<Interval<B>>
+    requires { 0 < B.Output.size count }
+{
+    map.first_fit(window, count).unwrap()
+}
+
 /// A number is copied without fail.
 pub fn copy_number(value: &i32) -> i32
     ensures { result ≡ value.now }
