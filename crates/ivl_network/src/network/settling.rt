@@ -37,7 +37,7 @@ impl<B: Width> Network<B> {
     /// `Differs` that takes nothing from them: each narrowing that counts removes a member, or leaves one
     /// rule fewer to look at. The rules are looked at in rounds, and one that has to be looked at again
     /// waits for the next; one that alone names a variable may wait until no other does.
-    /// `O(1)` for a rule beside its narrowing, and for each domain that changes a pass over the rules that
+    /// Costs its narrowings, `O(1)` beside each, and for each domain that changes a pass over the rules that
     /// name its variable. Rules in a circle may take a member or two at a time, and then need as many
     /// narrowings as there are members: the budget is what stops them.
     ///
@@ -95,6 +95,7 @@ impl<B: Width> Network<B> {
     /// Narrows the domains as [`Network::settle`] does, but no further once one of them is empty: no point
     /// solves the rules then. [`Settled::Unfinished`] says that the budget is used up or that a domain is
     /// empty; check with [`Network::has_empty`]. If a domain is empty before the call, nothing changes.
+    /// Costs what [`Network::settle`] costs.
     ///
     /// # Errors
     ///
@@ -177,7 +178,8 @@ impl<B: Width> Network<B> {
     /// for more than is left of the budget is not begun. Returns [`Settled::All`] exactly if no rule is
     /// left that has to be looked at.
     ///
-    /// After [`Settled::Unfinished`] another call goes on, if its budget covers the next narrowing.
+    /// After [`Settled::Unfinished`] another call goes on, if its budget covers the next narrowing. Costs
+    /// what [`Network::settle`] costs.
     ///
     /// # Errors
     ///
