@@ -100,12 +100,7 @@ pub(crate) fn put_list<B: Width, V: MapValue>(
     let added = list.len();
     if added == end - start {
         // as many come as go, so no other entry moves
-        exchange(
-            entries.as_mut_slice(),
-            start,
-            end,
-            list.as_mut_slice(),
-        );
+        exchange(entries.as_mut_slice(), start, end, list.as_mut_slice());
         return Ok(());
     }
     put_all(entries, start, list)?;
