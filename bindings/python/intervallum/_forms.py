@@ -18,7 +18,8 @@ def pairs_of_text(text: str) -> list[tuple[int, int]]:
     if not isinstance(text, str):
         raise TypeError("text is a string, not %r" % (text,))
     is_list = text.startswith("{") and text.endswith("}")
-    at, end, pairs = int(is_list), len(text) - is_list, []
+    at, end = int(is_list), len(text) - is_list
+    pairs: list[tuple[int, int]] = []
     while at < end or not (is_list or pairs):
         found = _RUN.match(text, at, end) if is_list or not pairs else None
         if found is None or int(found[1]) > int(found[2]):

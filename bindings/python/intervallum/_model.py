@@ -57,7 +57,9 @@ class Solution:
         return self.numbers[_index(variable)]
 
     def __eq__(self, other: object) -> bool:
-        return self.numbers == other.numbers if isinstance(other, Solution) else NotImplemented
+        if not isinstance(other, Solution):
+            return NotImplemented
+        return self.numbers == other.numbers
 
     def __hash__(self) -> int:
         return hash(self.numbers)
@@ -224,7 +226,7 @@ class Model:
         for _, length in given:
             if not 0 <= length < 2**64:
                 raise ValueError("length is from 0 to 2**64 - 1, not %d" % length)
-        listed = (_Task * len(given))(*given)
+        listed = (_Task * len(given))(*(_Task(*task) for task in given))
         self._told("no_overlap", ctypes.addressof(listed), len(given))
 
     # ---- searches
