@@ -170,7 +170,8 @@ fn edits_of_many_entries_at_once() {
     let entries = || (0..60u8).map(|i| (4 * i..=4 * i + 1, Touchy(u32::from(i))));
     let writes = || (0..40u8).map(|i| (6 * i + 1..=6 * i + 2, Touchy(u32::from(i) / 2)));
     let told = |map: &Map| map.iter().map(|(run, value)| (run, value.0)).collect::<Vec<_>>();
-    let edits: [fn(&mut Map, Vec<(RangeInclusive<u8>, Touchy)>); 3] = [
+    type Edit = fn(&mut Map, Vec<(RangeInclusive<u8>, Touchy)>);
+    let edits: [Edit; 3] = [
         |map, writes| map.extend(writes),
         |map, writes| map.append(&mut writes.into_iter().collect()),
         |map, writes| _ = map.remove_set(&writes.into_iter().map(|(run, _)| run).collect::<IntervalSet<u8>>()),

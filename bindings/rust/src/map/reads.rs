@@ -258,7 +258,7 @@ impl<T: Width, V: Clone + Eq> IntervalMap<T, V> {
     ///
     /// ```
     /// # use intervallum::IntervalMap;
-    /// let a = IntervalMap::from([(1..=5, "a"), (8..=9, "b")]);
+    /// let a = IntervalMap::from([(1..=5u8, "a"), (8..=9, "b")]);
     /// assert_eq!((a.size_within(4..=8), a.size_within(..), a.size_within(6..8)), (3, 7, 0));
     /// ```
     #[doc = contract!(over IntervalMap "overlapping")]
