@@ -1,6 +1,6 @@
 -- How `Interval::in_range` answers.
-use Rattle.std.proofs.Common.{inl, inr, ◌≡◌, ◌↔◌, ◌∙◌, ◌∷◌, ℤ, List, Bool, true, false, None, Some, IsTrue, refl, sym}
-use Rattle.std.specs.Prelude.{◌<ℤ◌, ◌≤ℤ◌, Option, find, int_le, int_lt, ◌&&◌}
+use Rattle.std.proofs.Common.{inl, inr, ◌≡◌, ◌↔◌, ◌∙◌, ◌∷◌, ℤ, List, Bool, true, false, Some, IsTrue, refl, sym}
+use Rattle.std.specs.Prelude.{◌<ℤ◌, ◌≤ℤ◌, Option, find, int_le, ◌&&◌}
 use Rattle.std.specs.List.{list_all}
 use Rattle.std.proofs.lemmas.Bool.{and_parts, cases_Bool, false≢true}
 use Rattle.ivl_laws.specs.Sets.{IsInRange}

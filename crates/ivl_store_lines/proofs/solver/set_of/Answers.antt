@@ -1,4 +1,7 @@
 use Rattle.std.proofs.Common.{◌≡◌, ◌∙◌, ◌^◌, ◌-◌, ℤ, pos, negsuc, List, None, Some, sym, subst, rules}
+use mir.Val.{SFits}
+use Rattle.std.specs.Int.{w64}
+use Rattle.std.proofs.lemmas.Int.{to_z-of_z}
 use Rattle.std.specs.List.{list_all}
 use borrow.Author.Tests.{tests}
 use Rattle.std.proofs.lemmas.Iterator.{YieldsList-from_slice}
@@ -34,4 +37,7 @@ returns-in_err-to_interval_set-clause-fault c =
 pub returns-in-Some-clause-fault : goal.returns-in-Some-clause-fault
 returns-in-Some-clause-fault c =
     let all : c.all.result ≡ list_all is_in_range c.args.pairs.now = all_from_yields_List is_in_range _ _ c.all.result c.all.ensures.ran (YieldsList-from_slice c.args.pairs.now c.iter.ensures.rest) (λ x b q k. (search (rules, tests), in_range_is (negsuc (2 ^ 63 - 2), pos (2 ^ 63 - 1)) x.now b (search (rules, tests)))) in
-    sym (within_range_fault c.args.pairs.now c.all.result (Some c.in-Some.pair) all c.if-not-all.false (sym c.in-Some.is ∙ c.first_crossed.ensures))
+    let same = sym (within_range_fault c.args.pairs.now c.all.result (Some c.in-Some.pair) all c.if-not-all.false (sym c.in-Some.is ∙ c.first_crossed.ensures)) in
+    let a : SFits w64 c.in-Some.pair.0 = search rules in
+    let b : SFits w64 c.in-Some.pair.1 = search rules in
+    rw (to_z-of_z w64 c.in-Some.pair.0 a, to_z-of_z w64 c.in-Some.pair.1 b) same
