@@ -7,18 +7,18 @@ use Rattle.std.specs.Prelude.{◌≤◌, ℕ, ℤ, pos, negsuc, nat_lt, if◌the
 use Rattle.ivl_lines.specs.Numbers.{number_of}
 use Rattle.ivl_allocator.specs.declared.requests.Take.{Take}
 use Rattle.ivl_allocator.specs.declared.requests.Take.TheVariants.{Lowest, At, Above}
-use Rattle.ivl_allocator.specs.Faults.{above, below, no_number, wrong_form}
+use Rattle.ivl_allocator.specs.Faults.{above, below, not_a_number, right_form}
 
-abbrev pub within : ℕ → ℕ → List ℕ → Option ℤ → Result ℕ (List ℕ)
-within least most word None = Err (no_number word)
-within least most word (Some (negsuc n)) = Err (below word least)
-within least most word (Some (pos n)) =
+abbrev pub number_within : ℕ → ℕ → List ℕ → Option ℤ → Result ℕ (List ℕ)
+number_within least most word None = Err (not_a_number word)
+number_within least most word (Some (negsuc n)) = Err (below word least)
+number_within least most word (Some (pos n)) =
     if nat_lt n least then Err (below word least)
     else if nat_lt most n then Err (above word most)
     else Ok n
 
 abbrev pub number_in : ℕ → ℕ → List ℕ → Result ℕ (List ℕ)
-number_in least most word = within least most word (number_of word)
+number_in least most word = number_within least most word (number_of word)
 
 abbrev pub take_form : List ℕ
 take_form = codes "take COUNT, take COUNT at NUMBER or take COUNT above NUMBER"
@@ -35,17 +35,17 @@ abbrev pub placed_by : ℕ → ℕ → ℕ → List ℕ → List (List ℕ) → 
 placed_by first last count how (place ∷ []) =
     if bytes_eq how (codes "at") then at_number count (number_in first last place)
     else if bytes_eq how (codes "above") then above_number count (number_in first last place)
-    else Err (wrong_form take_form)
-placed_by first last count how _ = Err (wrong_form take_form)
+    else Err (right_form take_form)
+placed_by first last count how _ = Err (right_form take_form)
 
-abbrev pub placed : ℕ → ℕ → Result ℕ (List ℕ) → List (List ℕ) → Result Take (List ℕ)
-placed first last (Err told) words = Err told
-placed first last (Ok count) [] = Ok (Lowest count)
-placed first last (Ok count) (how ∷ places) = placed_by first last count how places
+abbrev pub taken_where : ℕ → ℕ → Result ℕ (List ℕ) → List (List ℕ) → Result Take (List ℕ)
+taken_where first last (Err told) words = Err told
+taken_where first last (Ok count) [] = Ok (Lowest count)
+taken_where first last (Ok count) (how ∷ places) = placed_by first last count how places
 
 abbrev pub taken_of : ℕ → ℕ → ℕ → List (List ℕ) → Result Take (List ℕ)
-taken_of first last most [] = Err (wrong_form take_form)
-taken_of first last most (count ∷ words) = placed first last (number_in 1 most count) words
+taken_of first last most [] = Err (right_form take_form)
+taken_of first last most (count ∷ words) = taken_where first last (number_in 1 most count) words
 
 -- at least one number, and for a place at most so many
 abbrev pub IsTakeWithin : ℕ → ℕ → Take → Type 0
@@ -64,4 +64,4 @@ run_to last (Err told) upper = Err told
 
 abbrev pub given_of : ℕ → ℕ → List (List ℕ) → Result (ℤ × ℤ) (List ℕ)
 given_of first last (lower ∷ upper ∷ []) = run_to last (number_in first last lower) upper
-given_of first last _ = Err (wrong_form (codes "give FIRST LAST"))
+given_of first last _ = Err (right_form (codes "give FIRST LAST"))

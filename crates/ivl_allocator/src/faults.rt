@@ -1,7 +1,7 @@
 //! Why a line is not carried out.
 ghost use Rattle.std.specs.Prelude.{OnOk, option_map};
 ghost use Rattle.std.specs.Io.KnownBytes.{Appends};
-ghost use Rattle.ivl_allocator.specs.Faults.{fault_line, told_help};
+ghost use Rattle.ivl_allocator.specs.Faults.{told_fault, told_of_command};
 
 use ivl_lines::Escaped;
 use std::io;
@@ -25,7 +25,7 @@ pub enum Fault<'a> {
 /// Writes why a line was not carried out. Words of the line are printed with their control characters
 /// escaped.
 pub fn write_fault<W: Write>(writer: &mut W, fault: &Fault<'_>) -> io::Result<()>
-    ensures { OnOk result (Appends (W.contents writer.old) (W.contents writer.new) (fault_line fault.now)) }
+    ensures { OnOk result (Appends (W.contents writer.old) (W.contents writer.new) (told_fault fault.now)) }
 {
     match fault {
         Fault::Command(word) => writeln!(
@@ -44,7 +44,7 @@ pub fn write_fault<W: Write>(writer: &mut W, fault: &Fault<'_>) -> io::Result<()
 
 /// Writes what the command of this name does, or that there is no such command.
 pub fn write_help_of<W: Write>(writer: &mut W, name: &str, text: Option<&str>) -> io::Result<()>
-    ensures { OnOk result (Appends (W.contents writer.old) (W.contents writer.new) (told_help name.now (option_map (λ it. it.now) text.entry))) }
+    ensures { OnOk result (Appends (W.contents writer.old) (W.contents writer.new) (told_of_command name.now (option_map (λ it. it.now) text.entry))) }
 {
     match text {
         Some(text) => writeln!(writer, "{text}"),

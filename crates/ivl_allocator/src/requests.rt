@@ -2,7 +2,7 @@
 ghost use Rattle.std.specs.Prelude.{◌≡◌, ◌<◌, ◌≤◌, ◌==◌, Ok, Err, IfErr, IfOk, pos, slice_index};
 ghost use Rattle.ivl_laws.specs.Sets.{IsBetween, IsSubset};
 ghost use Rattle.ivl_lines.specs.Words.{words_between};
-ghost use Rattle.ivl_allocator.specs.Faults.{fault_line};
+ghost use Rattle.ivl_allocator.specs.Faults.{told_fault};
 ghost use Rattle.ivl_allocator.specs.Requests.{IsTakeWithin, given_of, number_in, placed_by, taken_of};
 
 use crate::faults::Fault;
@@ -35,7 +35,7 @@ pub enum Take {
 /// Reads the words after `take`: from 1 to `most` numbers, at or above a number from `first` to `last` if there is one.
 pub fn taking_from(words: &str, first: u64, last: u64, most: u64) -> Result<Take, Fault<'_>>
     ensures ok { IfOk result (λ take. taken_of first last most (words_between words.entry.now) ≡ Ok take) }
-    ensures err { IfErr result (λ fault. taken_of first last most (words_between words.entry.now) ≡ Err (fault_line fault)) }
+    ensures err { IfErr result (λ fault. taken_of first last most (words_between words.entry.now) ≡ Err (told_fault fault)) }
     ensures within { IfOk result (IsTakeWithin last most) }
 {
     let Some((count, rest)) = next_word(words) else {
@@ -58,7 +58,7 @@ fn place_from<'a>(
 ) -> Result<Take, Fault<'a>>
     requires { 1 ≤ count }
     ensures ok { IfOk result (λ take. placed_by first last count how.entry.now (words_between places.entry.now) ≡ Ok take) }
-    ensures err { IfErr result (λ fault. placed_by first last count how.entry.now (words_between places.entry.now) ≡ Err (fault_line fault)) }
+    ensures err { IfErr result (λ fault. placed_by first last count how.entry.now (words_between places.entry.now) ≡ Err (told_fault fault)) }
     ensures within { IfOk result (IsTakeWithin last count) }
 {
     let Some(place) = one_word(places) else {
@@ -76,7 +76,7 @@ fn place_from<'a>(
 pub fn given_from(words: &str, first: u64, last: u64) -> Result<Interval<u64>, Fault<'_>>
     requires { last < u64.MAX }
     ensures ok { IfOk result (λ run. given_of first last (words_between words.entry.now) ≡ Ok run) }
-    ensures err { IfErr result (λ fault. given_of first last (words_between words.entry.now) ≡ Err (fault_line fault)) }
+    ensures err { IfErr result (λ fault. given_of first last (words_between words.entry.now) ≡ Err (told_fault fault)) }
     ensures within { IfOk result (λ run. IsSubset (IsBetween run) (IsBetween (pos first, pos last))) }
 {
     let Some((lower, upper)) = two_words(words) else {
@@ -90,7 +90,7 @@ pub fn given_from(words: &str, first: u64, last: u64) -> Result<Interval<u64>, F
 /// The number that a word is, from `least` to `most`.
 fn number_within(word: &str, least: u64, most: u64) -> Result<u64, Fault<'_>>
     ensures ok { IfOk result (λ number. number_in least most word.entry.now ≡ Ok number) }
-    ensures err { IfErr result (λ fault. number_in least most word.entry.now ≡ Err (fault_line fault)) }
+    ensures err { IfErr result (λ fault. number_in least most word.entry.now ≡ Err (told_fault fault)) }
     ensures within { IfOk result (λ number. (least ≤ number) × (number ≤ most)) }
 {
     let Some(number) = number_from(word) else {

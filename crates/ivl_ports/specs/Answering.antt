@@ -8,15 +8,15 @@ use Rattle.ivl_laws.specs.Runs.{Covers}
 use Rattle.ivl_lines.specs.Commands.{AnswersByCommand}
 use Rattle.ivl_lines.specs.Lines.{with_newline}
 use Rattle.ivl_lines.specs.Sets.{pairs_text}
-use Rattle.ivl_allocator.specs.Answers.{Gives, IsFreeSet, Takes, Tells}
-use Rattle.ivl_allocator.specs.Faults.{unknown_command, wrong_form}
+use Rattle.ivl_allocator.specs.Answers.{Gives, IsFreeSet, Takes, SaysOnly}
+use Rattle.ivl_allocator.specs.Faults.{no_such_command, right_form}
 use Rattle.ivl_allocator.specs.Requests.{given_of, taken_of}
-use Rattle.ivl_ports.specs.Helps.{help_line}
+use Rattle.ivl_ports.specs.Helps.{port_help_line}
 
 abbrev pub Shows : List (List ℕ) → List (ℤ × ℤ) → List ℕ → List (ℤ × ℤ) → Type 0
 Shows [] old text new =
     ((size : ℕ) × IsCountOf size (Covers old) × (text ≡ decimal size ++ (codes " free: " ++ with_newline (pairs_text old)))) × (new ≡ old)
-Shows (word ∷ words) old text new = Tells (wrong_form (codes "free")) old text new
+Shows (word ∷ words) old text new = SaysOnly (right_form (codes "free")) old text new
 
 -- by the command and the words after it; a comment begins with `#`, which is 35, and has no answer
 abbrev pub AnswersCommand : List (ℤ × ℤ) → List ℕ → List (List ℕ) → List ℕ → List (ℤ × ℤ) → Type 0
@@ -24,9 +24,9 @@ AnswersCommand old name words text new =
     MatchBool (bytes_eq name (codes "take")) (Takes (taken_of 1024 65535 65535 words) old text new)
     (MatchBool (bytes_eq name (codes "give")) (Gives (given_of 1024 65535 words) old text new)
     (MatchBool (bytes_eq name (codes "free")) (Shows words old text new)
-    (MatchBool (bytes_eq name (codes "help")) (Tells (help_line words) old text new)
-    (MatchBool (slice_index name 0 == 35) (Tells [] old text new)
-    (Tells (unknown_command name) old text new)))))
+    (MatchBool (bytes_eq name (codes "help")) (SaysOnly (port_help_line words) old text new)
+    (MatchBool (slice_index name 0 == 35) (SaysOnly [] old text new)
+    (SaysOnly (no_such_command name) old text new)))))
     × (IsFreeSet 1024 65535 old → IsFreeSet 1024 65535 new)
 
 abbrev pub AnswersLine : List (ℤ × ℤ) → List ℕ → List ℕ → List (ℤ × ℤ) → Type 0

@@ -2,7 +2,7 @@
 ghost use Rattle.std.specs.Prelude.{◌≡◌, OnOk, option_map};
 ghost use Rattle.std.specs.Io.KnownBytes.{Appends};
 ghost use Rattle.ivl_lines.specs.Words.{words_between};
-ghost use Rattle.ivl_ports.specs.Helps.{help_line, help_text as text_of};
+ghost use Rattle.ivl_ports.specs.Helps.{port_help_line, port_help_text as text_of};
 
 use ivl_allocator::{Fault, write_fault, write_help_of};
 use ivl_lines::next_word;
@@ -11,7 +11,7 @@ use std::io::Write;
 
 /// Answers `help`, given the words after it: the commands, or what one of them does.
 pub fn write_help<W: Write>(writer: &mut W, words: &str) -> io::Result<()>
-    ensures { OnOk result (Appends (W.contents writer.old) (W.contents writer.new) (help_line (words_between words.now))) }
+    ensures { OnOk result (Appends (W.contents writer.old) (W.contents writer.new) (port_help_line (words_between words.now))) }
 {
     let Some((name, rest)) = next_word(words) else {
         return writer.write_all(b"take, give, free; help COMMAND tells what one does\n");
