@@ -1,6 +1,7 @@
 -- What the words after a command ask for, or the line that tells what is wrong with them.
 --     number_in least most word      the number that a word is, from `least` to `most`
 --     taken_of first last most words      what `take` asks for: from 1 to `most` numbers, the lowest, or at or above one from `first` to `last`
+--     placed_by first last count how places      the same for `count` numbers, where `how` is `at` or `above` and one number is to follow
 --     IsTakeWithin last most take      how far these numbers go
 --     given_of first last words      the numbers from `first` to `last` that `give` names
 use Rattle.std.specs.Prelude.{◌≤◌, ℕ, ℤ, pos, negsuc, nat_lt, if◌then◌else◌, List, [], ◌∷◌, Option, None, Some, Result, Ok, Err, bytes_eq, codes}
