@@ -152,8 +152,8 @@ fn push_rest<B: Width>(
 /// `ends` is what [`ends_of`] returns for these domains. Check with [`is_light`](super::is_light),
 /// [`is_over_different`](super::is_over_different) and [`first_unknown`](super::first_unknown).
 ///
-/// A look at the ends of the domain and, where members are lost, a binary search and a copy of what is left. Does not allocate where
-/// no member is lost.
+/// `O(1)`: a look at the ends of the domain; of a `Differs`, and where members are lost, a binary search, and then a copy of what is
+/// left. Does not allocate where no member is lost.
 ///
 /// # Errors
 ///
@@ -234,8 +234,8 @@ fn rest_of_filled<B: Width>(
 /// `ends` is what [`ends_of`] returns for them and these domains. Check with [`first_unknown`](super::first_unknown) and
 /// [`is_over_different`](super::is_over_different).
 ///
-/// A look at the ends of the domain and, where members are lost, a binary search and a copy of what is left. Does not allocate where
-/// no member is lost.
+/// `O(1)`: a look at the ends of the domain; where members are lost, a binary search and a copy of what is left. Does not allocate
+/// where no member is lost.
 ///
 /// # Errors
 ///
