@@ -152,7 +152,8 @@ fn push_rest<B: Width>(
 /// `ends` is what [`ends_of`] returns for these domains. Check with [`is_light`](super::is_light),
 /// [`is_over_different`](super::is_over_different) and [`first_unknown`](super::first_unknown).
 ///
-/// `O(1)` where no member is lost, and does not allocate then; else a binary search and a copy of what is left: `O(n)`.
+/// `O(1)` where no member is lost, `O(log n)` for a `Differs`, and does not allocate then; else a binary search and a copy of what is
+/// left: `O(n)`.
 ///
 /// # Errors
 ///
