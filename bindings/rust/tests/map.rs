@@ -452,6 +452,23 @@ fn calls_of_many_entries() {
     assert_eq!(map.without(&some).merge(&map.restrict_to(&some), |_, _| unreachable!()), map);
     assert_eq!((map.merge(&map, |x, y| x + y).get(15_001), format!("{map:?}").len() > 20_000), (Some(&3_000), true));
 
+    let middles: IntervalSet<i32> = (0..2_000).map(|i| 10 * i + 2).collect();
+    let (mut cut, mut written, mut kept) = (map.clone(), map.clone(), map.clone());
+    assert!(cut.remove_set(&middles) && cut == map.without(&middles) && cut.interval_count() == 4_000);
+    written.insert_set(&middles, -1);
+    assert_eq!(
+        (written.interval_count(), written.get(10_002), written.without(&middles)),
+        (6_000, Some(&-1), cut.clone())
+    );
+    kept.retain(|_, i| i % 2 == 1);
+    assert_eq!((kept.interval_count(), kept.numbers_with(|i| i % 2 == 0).size()), (1_000, 0));
+    cut.append(&mut kept);
+    assert_eq!(
+        (cut.interval_count(), cut.split_off(10_000).interval_count(), cut.interval_count()),
+        (3_000, 1_500, 1_500)
+    );
+    assert_eq!(Map::merge_of([&map, &written, &map], |x, y| x + y).get(10_002), Some(&1_999));
+
     let mut edited = map.clone();
     assert_eq!(edited.insert_if_free(10_005..=10_009, -1), Ok(()));
     assert_eq!(edited.insert_if_free(10_009..=10_020, -1), Err((10_005..=10_009, &-1)));

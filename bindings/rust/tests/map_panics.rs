@@ -167,8 +167,8 @@ fn edits_by_sets_and_of_all_entries() {
 /// Where writes one by one would move many entries, the map is made anew: what panics leaves all as it was, or as it was to be.
 #[test]
 fn edits_of_many_entries_at_once() {
-    let entries = || (0..60u8).map(|i| (4 * i..=4 * i + 1, Touchy(u32::from(i))));
-    let writes = || (0..40u8).map(|i| (6 * i + 1..=6 * i + 2, Touchy(u32::from(i) / 2)));
+    let entries = || (0..84u8).map(|i| (3 * i..=3 * i + 1, Touchy(u32::from(i))));
+    let writes = || (0..84u8).map(|i| (3 * i + 1..=3 * i + 2, Touchy(u32::from(i) / 2)));
     let told = |map: &Map| map.iter().map(|(run, value)| (run, value.0)).collect::<Vec<_>>();
     type Edit = fn(&mut Map, Vec<(RangeInclusive<u8>, Touchy)>);
     let edits: [Edit; 3] = [

@@ -329,8 +329,8 @@ impl<T: Width, V: Clone + Eq> IntervalMap<T, V> {
     /// Tells whether so many edits one by one, of numbers from a run on, move little beside a walk over all entries.
     fn moves_little(&self, edits: usize, first: &Interval<T>) -> bool {
         let moved = self.met(Interval::new(first.lower(), T::max_value())).len();
-        // to move an entry takes about an eighth of the time to copy one
-        edits.saturating_mul(moved) / 8 <= self.interval_count().saturating_add(edits)
+        // an edit moves half of them, which takes about a twentieth of the time to copy these
+        edits.saturating_mul(moved) / 40 <= self.interval_count().saturating_add(edits)
     }
 }
 
