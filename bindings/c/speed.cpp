@@ -1,11 +1,11 @@
 // Times ivl::set, ivl::paged_set and calls of C into a buffer beside Boost.ICL and CRoaring, where these are installed, over the same
-// runs: bindings/peers compiles it, and makes a table of what it prints. A line is a task, the number of runs, a kind of set, and nanoseconds: the least of five
-// rounds. An edit is half of the time of adding a number and taking it out.
+// runs: bindings/peers compiles it, and makes a table of what it prints. A line is a task, the number of runs, a kind of set, and
+// nanoseconds of the processor: the least of ten rounds. An edit is half of the time of adding a number and taking it out.
 #include "intervallum_handles.hpp"
 
-#include <chrono>
 #include <cstdio>
 #include <cstdlib>
+#include <ctime>
 #include <vector>
 
 #if defined(__has_include)
@@ -130,20 +130,30 @@ struct roaring {
 };
 #endif
 
-// The least time of a call in five rounds, each of which takes a twentieth of a second or one call.
+// The processor's time up to now, in nanoseconds.
+static double now() {
+    timespec at;
+    clock_gettime(CLOCK_PROCESS_CPUTIME_ID, &at);
+    return 1e9 * static_cast<double>(at.tv_sec) + static_cast<double>(at.tv_nsec);
+}
+
+// The least time of a call in ten rounds, each of a fiftieth of a second or one call.
 template <class Call> static double nanoseconds(Call call) {
-    using clock = std::chrono::steady_clock;
-    double least = 1e18;
-    for (int round = 0; round < 5; round++) {
-        auto start = clock::now();
-        double passed = 0;
-        long calls = 0;
-        while (passed < 5e7) {
+    double least = 1e18, taken = 0;
+    long calls = 1;
+    for (int round = 0; round < 10; ++round) {
+        double start = now();
+        for (long i = 0; i < calls; ++i)
             call();
-            ++calls;
-            passed = std::chrono::duration<double, std::nano>(clock::now() - start).count();
+        taken = now() - start;
+        least = std::min(least, taken / static_cast<double>(calls));
+        // at first, twice as many calls until they take long enough
+        if (round == 0 && taken < 2e7) {
+            calls *= 2;
+            round = -1;
         }
-        least = std::min(least, passed / static_cast<double>(calls));
+        if (taken > 1e9 && round > 1)
+            break;
     }
     return least;
 }

@@ -1,7 +1,6 @@
 """Times sets of intervals in Python beside `intervaltree`, `SortedSet` of `sortedcontainers` and `set`, where these are installed.
 
-bindings/peers runs it, and makes a table of what it prints. A line is a task, the number of runs, a kind of set, and nanoseconds:
-the least of five rounds. An edit is half of the time of adding a number and taking it out. What would take longer than half a
+bindings/peers runs it, and makes a table of what it prints. A line is a task, the number of runs, a kind of set, and nanoseconds. An edit is half of the time of adding a number and taking it out. What would take longer than half a
 minute, by the time of fewer runs, is left out.
 """
 
@@ -23,18 +22,22 @@ def drawn(count, seed):
 
 
 def least(call):
-    """The least time of a call, in nanoseconds."""
-    times = []
-    for _ in range(5):
-        started, calls, passed = time.perf_counter(), 0, 0.0
-        while passed < 0.05:
-            call()
-            calls += 1
-            passed = time.perf_counter() - started
-        times.append(passed / calls)
-        if passed > 5:
+    """The least time of a call in ten rounds, each of a fiftieth of a second or one call, in nanoseconds of the processor."""
+    taken, calls = 0.0, 1
+    while True:
+        taken = timed(call, calls)
+        if taken > 0.02:
             break
-    return 1e9 * min(times)
+        calls *= 2
+    rounds = 9 if taken < 1 else 1
+    return 1e9 * min([taken, *(timed(call, calls) for _ in range(rounds))]) / calls
+
+
+def timed(call, calls):
+    started = time.process_time()
+    for _ in range(calls):
+        call()
+    return time.process_time() - started
 
 
 def members(runs):
@@ -87,7 +90,7 @@ def main():
         numbers = [draw.randrange(first[-1][1]) for _ in range(100)]
         for name, make, union, common, has, edit in kinds():
 
-            def timed(task, call, share=1, grows=True):
+            def tell(task, call, share=1, grows=True):
                 before = took.get((task, name), 0)
                 if before * (1000 if grows else 1) > 30e9:
                     return
@@ -98,12 +101,12 @@ def main():
                 continue
             a, b = make(first), make(second)
             free = [number for number in numbers if not has(a, number)]
-            timed("make of runs", lambda: make(first))
-            timed("union", lambda: union(a, b))
+            tell("make of runs", lambda: make(first))
+            tell("union", lambda: union(a, b))
             if common is not None:
-                timed("intersection", lambda: common(a, b))
-            timed("search", lambda: [has(a, number) for number in numbers], 100, grows=False)
-            timed("edit", lambda: [edit(a, number) for number in free], 2 * len(free), grows=name == "IntervalSet")
+                tell("intersection", lambda: common(a, b))
+            tell("search", lambda: [has(a, number) for number in numbers], 100, grows=False)
+            tell("edit", lambda: [edit(a, number) for number in free], 2 * len(free), grows=name == "IntervalSet")
 
 
 if __name__ == "__main__":
