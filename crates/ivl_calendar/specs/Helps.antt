@@ -1,6 +1,7 @@
 -- What `help` answers.
 --     commands_text      the commands
 --     help_text name      what a command does; none where there is no such command
+--     told_help name text      that text as the answer, or that there is no such command
 --     help_line words      the answer to `help` with these words after it
 use Rattle.std.specs.Prelude.{ℕ, List, [], ◌∷◌, ◌++◌, Option, None, Some, bytes_eq, codes, if◌then◌else◌}
 use Rattle.ivl_lines.specs.Lines.{with_newline}

@@ -3,6 +3,7 @@
 --     rooms_text rooms      these, or `none`
 --     has_no rooms      there is none
 --     Shown      a booking: its days, and the name, if it has one
+--     with_name, without_name      a booking with its name, and one that has none
 --     shown_of room      the bookings of a room: those with a name, and then the days without one
 --     AreBookingsText is_first bookings text      each booking as `2026-03-05 to 2026-03-06 anna`, or without a name
 --     still_no is_first bookings      nothing is listed yet

@@ -2,6 +2,7 @@
 --     unknown_range_command word      there is no such command
 --     range_commands      the commands
 --     range_help_text name      what a command does; none where there is no such command
+--     told_range_help name text      that text as the answer, or that there is no such command
 --     range_help_line words      the answer to `help` with these words after it
 use Rattle.std.specs.Prelude.{ℕ, List, [], ◌∷◌, ◌++◌, Option, None, Some, bytes_eq, codes, if◌then◌else◌}
 use Rattle.ivl_lines.specs.Escapes.{escaped}

@@ -50,11 +50,13 @@ use crate::proved::intervallum::width::Width;
 /// ```
 ///
 /// Words: [`weight`](crate::definitions#weight), [`NamesEachOnce`](crate::definitions#NamesEachOnce), [`NamesBelow`](crate::definitions#NamesBelow), [`LinearSupportsAll`](crate::definitions#LinearSupportsAll), [`set_at`](crate::definitions#set_at).
+#[cfg_attr(debug_assertions, track_caller)]
 pub fn takes_nothing<B: Width>(
     domains: &[IntervalSet<B>],
     terms: &[Term],
     relation: Relation,
 ) -> bool {
+    debug_assert!({ #[allow(unused_imports)] use crate::proved::ivl_interval::ops::*; super::is_light(terms) && super::is_over_different(terms, relation) && super::first_unknown(terms, relation, domains.len()).is_none() }, "{}", "the condition of `takes_nothing` is broken: super::is_light(terms) && super::is_over_different(terms, relation) && super::first_unknown(terms, relation, domains.len()).is_none()");
     let Some(ends) = ends_of(terms, domains) else {
         return false;
     };
@@ -168,11 +170,13 @@ fn are_told<B: Width>(
 /// ```
 ///
 /// Words: [`weight`](crate::definitions#weight), [`NamesEachOnce`](crate::definitions#NamesEachOnce), [`NamesBelow`](crate::definitions#NamesBelow), [`TakesOnlyOne`](crate::definitions#TakesOnlyOne), [`set_at`](crate::definitions#set_at).
+#[cfg_attr(debug_assertions, track_caller)]
 pub fn lone_loss<B: Width>(
     domains: &[IntervalSet<B>],
     terms: &[Term],
     relation: Relation,
 ) -> Option<(usize, B)> {
+    debug_assert!({ #[allow(unused_imports)] use crate::proved::ivl_interval::ops::*; super::is_light(terms) && super::is_over_different(terms, relation) && super::first_unknown(terms, relation, domains.len()).is_none() }, "{}", "the condition of `lone_loss` is broken: super::is_light(terms) && super::is_over_different(terms, relation) && super::first_unknown(terms, relation, domains.len()).is_none()");
     match relation {
         Relation::AtMost(_) => None,
         Relation::AtLeast(_) => None,

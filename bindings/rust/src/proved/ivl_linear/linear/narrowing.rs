@@ -62,11 +62,13 @@ type Rests<B> = Vec<(usize, IntervalSet<B>)>;
 /// ```
 ///
 /// Words: [`weight`](crate::definitions#weight), [`NamesEachOnce`](crate::definitions#NamesEachOnce), [`NamesBelow`](crate::definitions#NamesBelow), [`set_at`](crate::definitions#set_at), [`NarrowedByLinear`](crate::definitions#NarrowedByLinear), [`LinearNames`](crate::definitions#LinearNames), [`HasLinearPointAt`](crate::definitions#HasLinearPointAt).
+#[cfg_attr(debug_assertions, track_caller)]
 pub fn narrow<B: Width>(
     domains: &mut [IntervalSet<B>],
     terms: &[Term],
     relation: Relation,
 ) -> Result<bool, AllocError> {
+    debug_assert!({ #[allow(unused_imports)] use crate::proved::ivl_interval::ops::*; super::is_light(terms) && super::is_over_different(terms, relation) && super::first_unknown(terms, relation, domains.len()).is_none() }, "{}", "the condition of `narrow` is broken: super::is_light(terms) && super::is_over_different(terms, relation) && super::first_unknown(terms, relation, domains.len()).is_none()");
     if domains.is_empty() {
         return Ok(false);
     }
@@ -144,7 +146,8 @@ fn push_rest<B: Width>(
 /// `ends` is what [`ends_of`] returns for these domains. Check with [`is_light`](super::is_light),
 /// [`is_over_different`](super::is_over_different) and [`first_unknown`](super::first_unknown).
 ///
-/// `O(1)` where no member is lost, and does not allocate then; else a binary search and a copy of what is left: `O(n)`.
+/// `O(1)` where no member is lost, `O(log n)` for a `Differs`, and does not allocate then; else a binary search and a copy of what is
+/// left: `O(n)`.
 ///
 /// # Errors
 ///
@@ -181,6 +184,7 @@ fn push_rest<B: Width>(
 /// ```
 ///
 /// Words: [`weight`](crate::definitions#weight), [`NamesEachOnce`](crate::definitions#NamesEachOnce), [`NamesBelow`](crate::definitions#NamesBelow), [`AreEndsOf`](crate::definitions#AreEndsOf), [`set_at`](crate::definitions#set_at), [`IsRestOf`](crate::definitions#IsRestOf), [`term_at`](crate::definitions#term_at), [`HasLinearPointAt`](crate::definitions#HasLinearPointAt).
+#[cfg_attr(debug_assertions, track_caller)]
 pub fn rest_of_term<B: Width>(
     domains: &[IntervalSet<B>],
     terms: &[Term],
@@ -188,6 +192,7 @@ pub fn rest_of_term<B: Width>(
     ends: Option<SumEnds>,
     k: usize,
 ) -> Result<Option<IntervalSet<B>>, AllocError> {
+    debug_assert!({ #[allow(unused_imports)] use crate::proved::ivl_interval::ops::*; k < terms.len() && super::is_light(terms) && super::is_over_different(terms, relation) && super::first_unknown(terms, relation, domains.len()).is_none() }, "{}", "the condition of `rest_of_term` is broken: k < terms.len() && super::is_light(terms) && super::is_over_different(terms, relation) && super::first_unknown(terms, relation, domains.len()).is_none()");
     match ends {
         Some(ends) => rest_of_filled(domains, terms, relation, &ends, k),
         None => {
@@ -264,12 +269,14 @@ fn rest_of_filled<B: Width>(
 /// ```
 ///
 /// Words: [`HasTermOf`](crate::definitions#HasTermOf), [`AreEndsOf`](crate::definitions#AreEndsOf), [`set_at`](crate::definitions#set_at), [`IsRestOf`](crate::definitions#IsRestOf), [`HasLinearPointAt`](crate::definitions#HasLinearPointAt).
+#[cfg_attr(debug_assertions, track_caller)]
 pub fn rest_of_teller<B: Width>(
     domains: &[IntervalSet<B>],
     variable: usize,
     bound: i64,
     ends: Option<SumEnds>,
 ) -> Result<Option<IntervalSet<B>>, AllocError> {
+    debug_assert!({ #[allow(unused_imports)] use crate::proved::ivl_interval::ops::*; variable < domains.len() }, "{}", "the condition of `rest_of_teller` is broken: variable < domains.len()");
     let domain = &domains[variable];
     match ends {
         Some(ends) => rest_within(domain, answers_of(bound, ends.least, ends.greatest)),

@@ -47,7 +47,9 @@ pub struct SumEnds {
 /// ```
 ///
 /// Words: [`weight`](crate::definitions#weight), [`AreOfDifferent`](crate::definitions#AreOfDifferent), [`HasTermsBelow`](crate::definitions#HasTermsBelow), [`AreEndsOf`](crate::definitions#AreEndsOf), [`set_at`](crate::definitions#set_at).
+#[cfg_attr(debug_assertions, track_caller)]
 pub fn ends_of<B: Width>(terms: &[Term], domains: &[IntervalSet<B>]) -> Option<SumEnds> {
+    debug_assert!({ #[allow(unused_imports)] use crate::proved::ivl_interval::ops::*; super::is_light(terms) && super::is_over_different(terms, super::Relation::AtMost(0)) && super::first_unknown(terms, super::Relation::AtMost(0), domains.len()).is_none() }, "{}", "the condition of `ends_of` is broken: super::is_light(terms) && super::is_over_different(terms, super::Relation::AtMost(0)) && super::first_unknown(terms, super::Relation::AtMost(0), domains.len()).is_none()");
     if has_empty(terms, domains) {
         return None;
     }
