@@ -94,7 +94,12 @@ fn check_one(coefficients: &[i64], relation: Relation, domains: &[Flags], counts
 /// The relations at some numbers; the variable that tells comes after so many terms.
 fn relations(count: usize) -> Vec<Relation> {
     let at = |bound| {
-        [Relation::AtMost(bound), Relation::AtLeast(bound), Relation::Differs(bound), Relation::Tells { variable: count, bound }]
+        [
+            Relation::AtMost(bound),
+            Relation::AtLeast(bound),
+            Relation::Differs(bound),
+            Relation::Tells { variable: count, bound },
+        ]
     };
     [-4, 0, 3].into_iter().flat_map(at).collect()
 }
@@ -146,7 +151,8 @@ fn two_terms_over_all_domains() {
 
 #[test]
 fn three_terms_over_all_intervals() {
-    let intervals: Vec<Flags> = (0..7).flat_map(|low| (low..7).map(move |high| ALL >> (6 - high) & (ALL << low))).chain([0]).collect();
+    let intervals: Vec<Flags> =
+        (0..7).flat_map(|low| (low..7).map(move |high| ALL >> (6 - high) & (ALL << low))).chain([0]).collect();
     let step = if cfg!(debug_assertions) { 7 } else { 1 };
     let mut counts = Counts::default();
     for coefficients in [[1, 1, -1], [2, -3, 1]] {
