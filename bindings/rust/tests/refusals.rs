@@ -1,9 +1,6 @@
 //! Each request for memory of the calls above sets is refused in turn: searches, networks, sums of many pairs of runs. The call
 //! tells it and leaves what it was given, or answers as with ample memory.
 use intervallum::proved::Global;
-use intervallum::proved::ivl_linear::linear::narrowing::{rest_of_teller, rest_of_term};
-use intervallum::proved::ivl_linear::linear::sums::ends_of;
-use intervallum::proved::ivl_linear::linear::{Relation, Term};
 use intervallum::proved::ivl_network::network::{Network, Settled};
 use intervallum::proved::ivl_rules::rules::Rule;
 use intervallum::proved::ivl_rules::rules::narrowing::{narrow, narrowed_at_places, narrowed_at_places_in};
@@ -407,29 +404,4 @@ fn narrowing_by_rules() {
     let (refused, told) =
         each_refused(|| Spares::<i64>::new(Global), |spares| spares.make_room(), |_, made, _| made.is_ok());
     assert!(refused == 1 && told == 1);
-}
-
-#[test]
-fn what_a_linear_rule_leaves() {
-    // 3 * x - 2 * y <= 4, and whether it is at most 1,000
-    let domains = || [(0, 40), (0, 10), (0, 1)].map(|(lower, upper)| Set::new(Global, lower, upper).unwrap());
-    let terms = [Term { coefficient: 3, variable: 0 }, Term { coefficient: -2, variable: 1 }];
-    let ends = ends_of(&terms, &domains());
-    type Rest = Result<Option<Set>, AllocError>;
-    type Call<'a> = &'a dyn Fn(&[Set]) -> Rest;
-    let calls: [(Call<'_>, (i64, i64)); 2] = [
-        (&|sets| rest_of_term(sets, &terms, Relation::AtMost(4), ends, 0), (0, 8)),
-        (&|sets| rest_of_teller(sets, 2, 1_000, ends), (1, 1)),
-    ];
-    for (call, (lower, upper)) in calls {
-        let (refused, told) = each_refused(
-            domains,
-            |sets| call(sets),
-            |sets, made, _| {
-                assert!(*sets == domains());
-                made.is_ok_and(|rest| rest == Some(Set::new(Global, lower, upper).unwrap()))
-            },
-        );
-        assert!(refused > 0 && told == refused, "{lower}: {refused}, {told}");
-    }
 }
