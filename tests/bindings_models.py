@@ -110,6 +110,8 @@ def interrupted(call, after):
 
 
 def interrupts():
+    # a shell has the commands that it runs in the background ignore it
+    signal.signal(signal.SIGINT, signal.default_int_handler)
     endless = Model()
     endless.all_different(endless.variables(20, range(1, 21)))
     for call in (lambda: endless.count(nodes=2**64), lambda: endless.solutions(nodes=2**64)):
