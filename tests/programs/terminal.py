@@ -29,6 +29,8 @@ class Screen:
         self.text = ""
         self.child, self.master = pty.fork()
         if self.child == 0:
+            # a shell has the commands that it runs in the background ignore Control-C
+            signal.signal(signal.SIGINT, signal.SIG_DFL)
             os.environ["PATH"] = path
             os.environ.pop("INTERVALLUM_RLWRAP", None)
             program = os.path.join(FOLDER, f"ivl_{name}")
