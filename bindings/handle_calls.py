@@ -2,61 +2,78 @@
 import re
 
 TABLE = "bindings/handles.txt"
+KINDS = ("set", "map", "solver", "solutions")
 NUMBERS = {"i64": "int64_t", "u64": "uint64_t"}
 
-# of a parameter: what it is in C, in Rust, how Rust takes it before the call, what Python gives
+# Of a parameter: what it is in C, in Rust over bounds `B` and pairs `R`, how Rust takes it before the call, what Python gives. KIND is that of the
+# handle, and OF(name) in C the name of a type of bounds.
+LIST = "is_list(%s, n)?; let %s = unsafe { list(%s, n) };"
 PARAMETERS = {
-    "member": ("NUMBER v", "v: BOUND", "let v = member(v)?;", ["NUMBER"]),
-    "number": ("NUMBER v", "v: BOUND", "", ["NUMBER"]),
-    "run": ("NUMBER lower, NUMBER upper", "lower: BOUND, upper: BOUND", "let run = run(lower, upper)?;", ["NUMBER", "NUMBER"]),
-    "window": ("NUMBER lower, NUMBER upper", "lower: BOUND, upper: BOUND", "let window = window(lower, upper);", ["NUMBER", "NUMBER"]),
+    "member": ("IVL_NUMBER v", "v: B", "let v = member(v)?;", ["NUMBER"]),
+    "number": ("IVL_NUMBER v", "v: B", "", ["NUMBER"]),
+    "run": ("IVL_NUMBER lower, IVL_NUMBER upper", "lower: B, upper: B", "let run = run(lower, upper)?;", ["NUMBER", "NUMBER"]),
+    "window": ("IVL_NUMBER lower, IVL_NUMBER upper", "lower: B, upper: B", "let window = window(lower, upper);", ["NUMBER", "NUMBER"]),
     "count": ("uint64_t count", "count: u64", "let count = above_0(count)?;", ["ctypes.c_uint64"]),
     "index": ("uint64_t index", "index: u64", "", ["ctypes.c_uint64"]),
     "value": ("uint64_t value", "value: u64", "", ["ctypes.c_uint64"]),
-    "other": ("const ivl_KIND_TYPE *other", "other: *const KIND<BOUND>", "let other = unsafe { reads(other) }?;", ["POINTER"]),
-    "pairs": ("const ivl_pair_TYPE *pairs, size_t n", "pairs: *const PAIR, n: usize", "is_list(pairs, n)?; let pairs = inside(unsafe { list(pairs, n) })?;", ["POINTER", "COUNT"]),
-    "room": ("ivl_pair_TYPE *out, size_t room", "out: *mut PAIR, room: usize", "is_list(out, room)?; let out = unsafe { buffer(out, room) };", ["POINTER", "COUNT"]),
+    "other": ("const OF(KIND) *other", "other: *const HANDLE", "let other = unsafe { reads(other) }?;", ["POINTER"]),
+    "pairs": ("const OF(pair) *pairs, size_t n", "pairs: *const R, n: usize", "is_list(pairs, n)?; let pairs = inside(unsafe { list(pairs, n) })?;", ["POINTER", "COUNT"]),
+    "room": ("OF(pair) *out, size_t room", "out: *mut R, room: usize", "is_list(out, room)?; let out = unsafe { buffer(out, room) };", ["POINTER", "COUNT"]),
+    "x": ("int64_t x", "x: i64", "", ["ctypes.c_int64"]),
+    "y": ("int64_t y", "y: i64", "", ["ctypes.c_int64"]),
+    "total": ("int64_t total", "total: i64", "", ["ctypes.c_int64"]),
+    "by": ("int64_t by", "by: i64", "", ["ctypes.c_int64"]),
+    "copies": ("size_t copies", "copies: usize", "", ["COUNT"]),
+    "variables": ("const int64_t *variables, size_t n", "variables: *const i64, n: usize", LIST % (3 * ("variables",)), ["POINTER", "COUNT"]),
+    "tasks": ("const ivl_task *tasks, size_t n", "tasks: *const Task, n: usize", LIST % (3 * ("tasks",)), ["POINTER", "COUNT"]),
+    "limits": ("const ivl_limits *limits", "limits: *const SearchLimits", "let limits = unsafe { limits_at(limits) };", ["POINTER"]),
+    "numbers": ("IVL_NUMBER *numbers, size_t room", "numbers: *mut B, room: usize", "is_list(numbers, room)?; let numbers = unsafe { buffer(numbers, room) };", ["POINTER", "COUNT"]),
+    "flag": ("bool stops", "stops: bool", "", ["ctypes.c_bool"]),
 }
-# of an answer: what is written in C, in Rust, and how Rust tells it
+# of an answer: where it is written in C, in Rust, and how Rust tells it
 ANSWERS = {
     "yes": ("", "", "yes(%s)"),
     "done": ("", "", "done(%s)"),
+    "code": ("", "", "(%s).map(|()| 0)"),
+    "told": ("", "", "%s"),
     "list": ("", "", "Ok(tell(%s, out))"),
-    "number": ("NUMBER *found", "found: *mut BOUND", "unsafe { found_at(found, %s) }"),
+    "number": ("IVL_NUMBER *found", "found: *mut B", "unsafe { found_at(found, %s) }"),
     "value": ("uint64_t *found", "found: *mut u64", "unsafe { found_at(found, %s) }"),
-    "run": ("ivl_pair_TYPE *found", "found: *mut PAIR", "unsafe { found_at(found, (%s).map(PAIR::of_run)) }"),
-    "entry": ("ivl_entry_TYPE *found", "found: *mut Entry<BOUND>", "unsafe { found_at(found, (%s).map(Entry::of)) }"),
+    "run": ("OF(pair) *found", "found: *mut R", "unsafe { found_at(found, (%s).map(R::of_run)) }"),
+    "entry": ("OF(entry) *found", "found: *mut Entry<B>", "unsafe { found_at(found, (%s).map(Entry::of)) }"),
     "size": ("uint64_t *size", "size: *mut u64", "unsafe { size_at(size, %s) }"),
-    "made set": ("ivl_set_TYPE **made", "made: *mut *mut Set<BOUND>", "unsafe { made_at(made, || %s) }"),
-    "made map": ("ivl_map_TYPE **made", "made: *mut *mut Map<BOUND>", "unsafe { made_at(made, || %s) }"),
+    "counted": ("uint64_t *count", "count: *mut u64", "unsafe { counted_at(count, %s) }"),
 }
+for made in KINDS:
+    failing = "%s" if made.startswith("sol") else "(%s).map_err(out_of_memory)"
+    place = "made: *mut *mut %s<B>" % made.capitalize()
+    ANSWERS["made " + made] = "OF(%s) **made" % made, place, "unsafe { made_at(made, || %s) }" % failing
 
 
 class Call:
     """A line of the table, and what the header says of it."""
 
     def __init__(self, line, said):
-        found = re.fullmatch(r"(set|map) (\w+)\(([\w, ]+)\) -> ([\w ]+) = (.+)", line)
+        found = re.fullmatch(r"(%s) (\w+)\(([\w, ]+)\) -> ([\w ]+) = (.+)" % "|".join(KINDS), line)
         if not found:
             raise SystemExit(f"{TABLE}: no call: {line}")
         self.kind, self.name, words, self.answer, self.does = found.groups()
         self.takes, *self.parameters = words.split(", ")
         self.said = said
 
-    def of_type(self, text, bounds):
-        text = text.replace("KIND", self.kind if "ivl_" in text else self.kind.capitalize())
-        return text.replace("NUMBER", NUMBERS[bounds]).replace("BOUND", bounds).replace("PAIR", f"Pair{bounds.upper()}").replace("TYPE", bounds)
+    def words(self, handle, place):
+        """The words of the parameters, of one language."""
+        words = [handle.get(self.takes, ""), *(PARAMETERS[one][place] for one in self.parameters), ANSWERS[self.answer][place]]
+        rust = f"{self.kind.capitalize()}<B>"
+        return ", ".join(word.replace("KIND", self.kind).replace("HANDLE", rust) for word in words if word)
 
-    def in_c(self, bounds):
-        handle = {"reads": "const ivl_KIND_TYPE *KIND", "edits": "ivl_KIND_TYPE *KIND", "none": ""}[self.takes]
-        words = [handle, *(PARAMETERS[one][0] for one in self.parameters), ANSWERS[self.answer][0]]
-        words = ", ".join(self.of_type(word, bounds) for word in words if word)
-        return f"IVL_NODISCARD int64_t ivl_{self.kind}_{self.name}_{bounds}({words});\n"
+    def in_c(self):
+        words = self.words({"reads": "const OF(KIND) *KIND", "edits": "OF(KIND) *KIND"}, 0)
+        words = re.sub(r"OF\((\w+)\)", r"IVL_OF(\1)", words)
+        return f"IVL_NODISCARD int64_t IVL_OF({self.kind}_{self.name})({words});\n"
 
-    def in_rust(self, bounds):
-        handle = {"reads": "it: *const KIND<BOUND>", "edits": "it: *mut KIND<BOUND>", "none": ""}[self.takes]
-        words = [handle, *(PARAMETERS[one][1] for one in self.parameters), ANSWERS[self.answer][1]]
-        words = ", ".join(self.of_type(word, bounds) for word in words if word)
+    def in_rust(self):
+        words = self.words({"reads": "it: *const HANDLE", "edits": "it: *mut HANDLE"}, 1)
         taken = [] if self.takes == "none" else [f"let it = unsafe {{ {self.takes}(it) }}?;"]
         if self.takes == "edits" and "other" in self.parameters:
             # the same handle twice: what it has is copied, so that Rust is not given it twice
@@ -67,10 +84,8 @@ class Call:
         taken += [f"is_place({place})?;"] if place else []
         if len(taken) > 1 and "copied" in taken[0]:
             taken = [line.replace("{ reads(other) }?", "{ other_than(&copied, other) }?") for line in taken]
-        told = self.of_type(ANSWERS[self.answer][2], bounds) % self.does
-        body = "".join(f"        {self.of_type(line, bounds)}\n" for line in taken)
-        return (f"#[unsafe(no_mangle)]\nunsafe extern \"C\" fn ivl_{self.kind}_{self.name}_{bounds}({words}) -> i64 {{\n"
-                f"    guarded(|| {{\n{body}        {told}\n    }})\n}}\n")
+        body = "".join(f"        {line}\n" for line in taken)
+        return exported(f"{self.kind}_{self.name}", words, " -> i64", f"    guarded(|| {{\n{body}        {ANSWERS[self.answer][2] % self.does}\n    }})\n")
 
     def in_python(self):
         words = [] if self.takes == "none" else ["POINTER"]
@@ -78,6 +93,12 @@ class Call:
             words += PARAMETERS[one][3]
         words += ["POINTER"] if ANSWERS[self.answer][0] else []
         return f'    "{self.kind}_{self.name}": ([{", ".join(words)}], ctypes.c_int64),\n'
+
+
+def exported(name, words, answer, body):
+    """A function that the library exports for a type of bounds."""
+    return (f"#[unsafe(export_name = concat!(\"ivl_{name}_\", $bounds))]\n"
+            f"unsafe extern \"C\" fn {name}({words}){answer} {{\n{body}}}\n")
 
 
 def calls(text):
@@ -91,54 +112,47 @@ def calls(text):
     return made
 
 
-def header(all_calls, template, head):
-    before, part, after = re.split(r"@type\n|@end\n", template)
-
-    def prototypes(kind, bounds):
+def header_of_type(all_calls, template, head):
+    """The part of the header that is read for each type of bounds."""
+    for kind in KINDS:
         text = ""
         for call in all_calls:
             if call.kind == kind:
                 lines = call.said.rstrip().splitlines()
                 text += "\n/* " + "\n   ".join(lines) + " */\n" if lines else ""
-                text += call.in_c(bounds)
-        return text
-
-    def of_type(bounds):
-        text = part.replace("@set\n", prototypes("set", bounds)).replace("@map\n", prototypes("map", bounds))
-        return text.replace("NUMBER", NUMBERS[bounds]).replace("TYPE", bounds)
-
-    return f"/* {head} */\n" + before + "".join(of_type(bounds) for bounds in NUMBERS) + after
+                text += call.in_c()
+        template = template.replace(f"@{kind}\n", text)
+    return f"/* {head} */\n" + template
 
 
 def by_cargo(all_calls, head):
-    frees = "".join(f"""#[unsafe(no_mangle)]
-unsafe extern "C" fn ivl_{kind}_free_{bounds}(it: *mut {kind.capitalize()}<{bounds}>) {{
-    unsafe {{ free(it) }}
-}}
-
-""" for kind in ("set", "map") for bounds in NUMBERS)
-    return (f"// {head}\n//! The calls of handles: each tests what it is given, and makes the call of the proved set or map.\n"
-            "use super::handles::*;\nuse super::{buffer, list};\nuse intervallum::proved::Global;\n"
-            "use intervallum::proved::ivl_buffers::pair::{PairI64, PairU64};\nuse intervallum::proved::ivl_buffers::writing::tell;\n"
-            "use intervallum::proved::prelude::*;\n\n"
-            + frees + "\n".join(call.in_rust(bounds) for bounds in NUMBERS for call in all_calls))
+    frees = [exported(f"{kind}_free", f"it: *mut {kind.capitalize()}<B>", "", "    unsafe { free(it) }\n") for kind in KINDS]
+    text = "\n".join(frees + [call.in_rust() for call in all_calls])
+    text = "".join(f"        {line}\n" if line else "\n" for line in text.splitlines())
+    return (f"// {head}\n//! The calls of handles: each tests what it is given, and makes the call of the proved set, map or search.\n"
+            "use super::handles::*;\nuse super::solver::{Solutions, Solver, Task, best};\nuse super::{buffer, list};\n"
+            "use intervallum::proved::Global;\nuse intervallum::proved::ivl_buffers::pair::{PairI64, PairU64};\n"
+            "use intervallum::proved::ivl_buffers::writing::tell;\nuse intervallum::proved::prelude::*;\n\n"
+            "/// The calls of one type of bounds, whose names end with it.\nmacro_rules! calls {\n"
+            "    ($module:ident, $bound:ty, $pair:ty, $bounds:literal) => {\n    mod $module {\n        use super::*;\n\n"
+            "        type B = $bound;\n        type R = $pair;\n\n" + text + "    }\n    };\n}\n\n"
+            "calls!(of_i64, i64, PairI64, \"i64\");\ncalls!(of_u64, u64, PairU64, \"u64\");\n")
 
 
 def in_cpp(all_calls, head):
     """The calls of one type of bounds, by whether it is signed."""
-    def of_type(is_signed, bounds):
-        lines = "".join(f"    static constexpr auto {call.kind}_{call.name} = ivl_{call.kind}_{call.name}_{bounds};\n" for call in all_calls)
-        for kind in ("set", "map"):
-            lines = f"    static constexpr auto {kind}_free = ivl_{kind}_free_{bounds};\n" + lines
-            lines = f"    using {kind} = ivl_{kind}_{bounds};\n" + lines
-        return (f"template <> struct handle_calls<{is_signed}> {{\n    using number = std::{NUMBERS[bounds]};\n"
-                f"    using pair = ivl_pair_{bounds};\n    using entry = ivl_entry_{bounds};\n{lines}}};\n")
+    types = [f"    using {name} = ivl_{name}_##type; \\\n" for name in ("pair", "entry", *KINDS)]
+    frees = [f"    static constexpr auto {kind}_free = ivl_{kind}_free_##type; \\\n" for kind in KINDS]
+    named = [f"    static constexpr auto {call.kind}_{call.name} = ivl_{call.kind}_{call.name}_##type; \\\n" for call in all_calls]
     return (f"// {head}\n// The calls of intervallum_handles.h by the type of bounds, for intervallum_handles.hpp.\n"
             "#ifndef INTERVALLUM_HANDLE_CALLS_HPP\n#define INTERVALLUM_HANDLE_CALLS_HPP\n\n#include \"intervallum_handles.h\"\n\n#include <cstdint>\n\n"
             "namespace ivl::detail {\n\ntemplate <bool is_signed> struct handle_calls;\n\n"
-            + of_type("true", "i64") + "\n" + of_type("false", "u64") + "\n} // namespace ivl::detail\n\n#endif\n")
+            "#define IVL_HANDLE_CALLS(is_signed, type, of_number) \\\n    template <> struct handle_calls<is_signed> { \\\n    using number = of_number; \\\n"
+            + "".join(types + frees + named) + "    }\n"
+            "IVL_HANDLE_CALLS(true, i64, std::int64_t);\nIVL_HANDLE_CALLS(false, u64, std::uint64_t);\n#undef IVL_HANDLE_CALLS\n\n"
+            "} // namespace ivl::detail\n\n#endif\n")
 
 
 def in_python(all_calls):
-    frees = "".join(f'    "{kind}_free": ([POINTER], None),\n' for kind in ("set", "map"))
+    frees = "".join(f'    "{kind}_free": ([POINTER], None),\n' for kind in KINDS)
     return "HANDLE_SHAPES: dict[str, tuple[list[Any], Any]] = {\n" + frees + "".join(call.in_python() for call in all_calls) + "}\n"

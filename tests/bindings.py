@@ -7,6 +7,7 @@ import ctypes
 import ctypes.util
 import datetime
 import doctest
+import json
 import multiprocessing
 import operator
 import os
@@ -613,6 +614,33 @@ def dates(count):
     print("bindings: Python: %d sets of dates agree with `set`" % count)
 
 
+# ---- texts and JSON
+
+
+def forms(count):
+    random.seed(25)
+    for _ in range(count):
+        plain = {n for n in range(-20, 20) if random.random() < 0.5}
+        for made in (IntervalSet(plain), Changing(plain)):
+            text, form = made.to_text(), made.to_json()
+            assert made == type(made).from_text(text) == type(made).from_json(form) == type(made).from_json(form.encode())
+            assert [tuple(run) for run in json.loads(form)] == made.runs() and text.count("..") == len(made.runs())
+        if HAS_HANDLES:
+            entries = IntervalMap(((run), random.choice(["anna", None, 5])) for run in IntervalSet(plain).runs())
+            assert IntervalMap.from_json(entries.to_json()) == entries
+    assert IntervalSet.from_text("{[5..5][1..2][2..3]}") == {1, 2, 3, 5} and IntervalSet.from_json("null") == set()
+    assert IntervalSet([2**64 - 2], bounds="u64").to_text() == "[18446744073709551614..18446744073709551614]"
+    for wrong in ("", "[", "[1..2", "[2..1]", "{[1..2]", "[1..2][5..5]", "{1..2}", "[1..2]x", "{[1..2] [5..5]}", "[1,2]", "{[1..x]}"):
+        raises(ValueError, lambda: IntervalSet.from_text(wrong), "a run from a lower to an upper bound is wanted")
+    raises(TypeError, lambda: IntervalSet.from_text(5), "text is a string, not 5")
+    for wrong in ("[[1]]", "[[1,2,3]]", "[[2,1]]", "[1,2]", "[[1.0,2]]", "[[true,2]]", '[["1",2]]'):
+        raises(ValueError, lambda: IntervalSet.from_json(wrong), "a run in JSON is a list of a lower and an upper bound")
+    raises(ValueError, lambda: IntervalSet.from_json('{"a":1}'), "JSON of a set is a list of runs")
+    raises(json.JSONDecodeError, lambda: IntervalSet.from_json("[["))
+    raises(OutOfRange, lambda: IntervalSet.from_json("[[-1,0]]", bounds="u64"), "-1 is outside the range of u64")
+    print("bindings: Python: %d sets come back from texts and JSON" % count)
+
+
 # ---- what is no set, and what the error says
 
 
@@ -639,14 +667,19 @@ def misuse():
     a, unsigned = IntervalSet([(1, 5)]), IntervalSet([3], bounds="u64")
     for wrong in ([(5,)], [()], [(1, 2, 3)], [5, (1,)], [[1, 2], []]):
         raises(TypeError, lambda: IntervalSet(wrong), "a pair has two bounds: ")
-    for wrong, kind in (("a", "str"), (1.5, "float"), (None, "NoneType")):
-        told = "'%s' object cannot be interpreted as an integer" % kind
+    for wrong in ("a", 1.5, None):
+        told = "is a whole number, not %r" % (wrong,)
         calls = [lambda: IntervalSet([wrong]), lambda: IntervalSet([(1, wrong)]), lambda: IntervalSet([[wrong, 1], 3])]
         calls += [lambda: IntervalSet([{wrong}])]
         calls += [lambda: a.next_from(wrong), lambda: a.previous_to(wrong), lambda: a.run_at(wrong)]
         calls += [lambda: a.rank(wrong), lambda: a.nth(wrong), lambda: a.first_fit(wrong), lambda: a.union([wrong])]
         for call in calls:
             raises(TypeError, call, told)
+        named = {"value": lambda: a.rank(wrong), "index": lambda: a.nth(wrong), "count": lambda: a.first_fit(wrong)}
+        named.update({"lower": lambda: IntervalSet.of(wrong, 1), "upper": lambda: a.gaps_within(1, wrong), "a member": lambda: IntervalSet([{wrong}])})
+        named.update({"a bound": lambda: IntervalSet([(1, wrong)])})
+        for name, call in named.items():
+            raises(TypeError, call, "%s %s" % (name, told))
     for call in (lambda: IntervalSet(5), lambda: a.union(5), lambda: a.issubset(5), lambda: a.sums(5)):
         raises(TypeError, call, "a set is made of an iterable of numbers, ranges, pairs and sets, not of 5")
     # membership is that of Python's sets
@@ -680,7 +713,7 @@ def misuse():
     for sign, call in signs.items():
         for two in ((a, [3]), ([3], a), (a, 3), (Changing(a), [3])):
             raises(TypeError, lambda: call(*two), "unsupported operand type(s) for %s: " % sign)
-    raises(TypeError, lambda: a | {"x"}, "'str' object cannot be interpreted as an integer")
+    raises(TypeError, lambda: a | {"x"}, "an item is a whole number, not 'x'")
     raises(OutOfRange, lambda: unsigned | {-1}, "-1 is outside the range of u64")
     assert a & {"x", 3} == {3} and a - {"x", 3} == {1, 2, 4, 5} and not a <= {"x"} and a != {"x"} and a & unsigned == {3}
     raises(TypeError, lambda: a < [1], "'<' not supported between instances of 'IntervalSet' and 'list'")
@@ -790,16 +823,19 @@ def header():
         expected = [pointer if "*" in one else sizes[one.split()[0]] for one in arguments.split(",")]
         assert call.restype is sizes[answer] and list(call.argtypes) == expected, (name, bounds, call.argtypes)
     assert len(found) == 2 * len(intervallum.SHAPES)
-    page = open(os.path.join(TOP, "bindings/c/intervallum_handles.h"), encoding="utf-8").read()
-    handles = re.findall(r"(\w+) ivl_((?:set|map)_\w+)_([iu]64)\(([^)]*)\);", re.sub(r"/\*.*?\*/", "", page, flags=re.S))
-    for answer, name, bounds, arguments in handles:
+    page = open(os.path.join(TOP, "bindings/c/intervallum_handle_calls.h"), encoding="utf-8").read()
+    page = re.sub(r"IVL_OF\((\w+)\)", r"ivl_\1_TYPE", re.sub(r"/\*.*?\*/", "", page, flags=re.S))
+    handles = re.findall(r"(\w+) ivl_(\w+)_TYPE\(([^)]*)\);", page)
+    of_types = [(answer, name, bounds, arguments) for answer, name, arguments in handles for bounds in ("i64", "u64")]
+    for answer, name, bounds, arguments in of_types:
+        sizes["IVL_NUMBER"] = sizes["int64_t" if bounds == "i64" else "uint64_t"]
         call = (intervallum._types[bounds].handles or {}).get(name)
         if call is None:
             continue
         expected = [pointer if "*" in one else sizes[one.split()[0]] for one in arguments.split(",")]
         assert call.restype is (None if answer == "void" else sizes[answer]) and list(call.argtypes) == expected, (name, bounds)
-    assert len(handles) == 2 * len(intervallum.HANDLE_SHAPES)
-    found += handles
+    assert len(handles) == len(intervallum.HANDLE_SHAPES)
+    found += of_types
     print("bindings: Python: the types of %d calls are those of the header" % len(found))
 
 
@@ -861,7 +897,7 @@ def processes():
 
 
 def examples(*pages):
-    modules = [intervallum, intervallum._runs, intervallum._dates] + [intervallum._mutable] * HAS_HANDLES
+    modules = [intervallum, intervallum._runs, intervallum._dates] + [intervallum._mutable, intervallum._model] * HAS_HANDLES
     failed, tried = map(sum, zip(*map(doctest.testmod, modules)))
     parser, run = doctest.DocTestParser(), doctest.DocTestRunner()
     for page in pages:
@@ -870,7 +906,7 @@ def examples(*pages):
         inline = [one for one in re.findall(r"`([^`\n]*)`", text) if one.startswith("IntervalSet([")]
         assert blocks or inline, page
         for block in blocks:
-            if not HAS_HANDLES and re.search("MutableIntervalSet|IntervalMap", block):
+            if not HAS_HANDLES and re.search("MutableIntervalSet|IntervalMap|Model", block):
                 continue
             # a block without prompts is a program
             if not block.startswith(">>>"):
@@ -958,10 +994,15 @@ def least_time(call):
     return min(times) * 1e6
 
 
+def models(count):
+    """In a file of its own, for what it does with signals."""
+    subprocess.run([sys.executable, os.path.join(TOP, "tests/bindings_models.py"), str(count)], check=True)
+
+
 if __name__ == "__main__":
     calls = {
-        "facts": facts, "sets": sets, "fuzz": fuzz, "threads": threads, "arrays": arrays, "misuse": misuse, "changing": changing, "maps": maps, "dates": dates,
+        "facts": facts, "sets": sets, "fuzz": fuzz, "threads": threads, "arrays": arrays, "misuse": misuse, "changing": changing, "maps": maps, "dates": dates, "forms": forms,
         "processes": processes, "examples": examples, "speed": speed,
-        "header": header,
+        "header": header, "models": models,
     }
     calls[sys.argv[1]](*(int(word) if word.isdigit() else word for word in sys.argv[2:]))

@@ -1,27 +1,9 @@
 /* Sets and maps behind handles beside a model: flags of 64 consecutive numbers, and a value for each, near both ends of each type
    and near zero; and what a null pointer gets. handles [ROUNDS [SEED]]; its last line tells how many calls agreed. */
+#include "agree.h"
 #include "intervallum_handles.h"
 
-#include <stdio.h>
-#include <stdlib.h>
-
 enum { SPAN = 64, VALUES = 3 };
-
-static unsigned long long state, calls;
-
-static unsigned draw(unsigned below) {
-    state = state * 6364136223846793005u + 1442695040888963407u;
-    return (unsigned)(state >> 33) % below;
-}
-
-static void check(int is_so, const char *what, int line) {
-    calls++;
-    if (is_so)
-        return;
-    printf("failed: %s in line %d, after %llu calls\n", what, line, calls);
-    exit(1);
-}
-#define AGREE(call, expected) check((call) == (expected), #call, __LINE__)
 
 static uint64_t mask(unsigned lower, unsigned upper) {
     return lower > upper ? 0 : UINT64_MAX >> (63 - (upper - lower)) << lower;
@@ -314,8 +296,7 @@ OF_TYPE(i64, int64_t, INT64_MIN, INT64_MAX)
 OF_TYPE(u64, uint64_t, 0, UINT64_MAX)
 
 int main(int count, char **words) {
-    unsigned long rounds = count > 1 ? strtoul(words[1], NULL, 10) : 300;
-    state = count > 2 ? strtoull(words[2], NULL, 10) : 1;
+    unsigned long rounds = rounds_of(count, words);
     misuse_i64();
     misuse_u64();
     for (unsigned long i = 0; i < rounds; i++) {

@@ -1,40 +1,19 @@
 /* Lets each request for memory of each call of handles that makes one fail in turn: the call answers IVL_OUT_OF_MEMORY and changes
-   nothing, or does what it does. Linked with --wrap=malloc and the like, so that the library's requests come here. */
+   nothing, or does what it does. */
 #include "intervallum_handles.h"
 
+#include "refused.h"
+
 #include <stdio.h>
-#include <stdlib.h>
-
-void *__real_malloc(size_t size);
-void *__real_calloc(size_t count, size_t size);
-void *__real_realloc(void *block, size_t size);
-int __real_posix_memalign(void **block, size_t alignment, size_t size);
-void *__wrap_malloc(size_t size);
-void *__wrap_calloc(size_t count, size_t size);
-void *__wrap_realloc(void *block, size_t size);
-int __wrap_posix_memalign(void **block, size_t alignment, size_t size);
-
-/* How many requests are met before one is refused; none is where it is negative. */
-static int before_refusal = -1;
-
-static int is_refused(void) {
-    return before_refusal >= 0 && before_refusal-- == 0;
-}
-void *__wrap_malloc(size_t size) {
-    return is_refused() ? NULL : __real_malloc(size);
-}
-void *__wrap_calloc(size_t count, size_t size) {
-    return is_refused() ? NULL : __real_calloc(count, size);
-}
-void *__wrap_realloc(void *block, size_t size) {
-    return is_refused() ? NULL : __real_realloc(block, size);
-}
-int __wrap_posix_memalign(void **block, size_t alignment, size_t size) {
-    return is_refused() ? 12 : __real_posix_memalign(block, alignment, size);
-}
 
 static ivl_set_i64 *a, *b, *made;
 static ivl_map_i64 *map, *made_map;
+static ivl_solver_i64 *solver, *made_solver;
+static ivl_solutions_i64 *made_solutions;
+static int64_t numbers[3];
+static uint64_t count;
+static const int64_t all[] = {0, 1, 2};
+static const ivl_task tasks[] = {{0, 2}, {1, 1}, {2, 1}};
 static ivl_pair_i64 run;
 
 #define OF_CALL(name, call)                                                                                                 \
@@ -67,6 +46,17 @@ OF_CALL(map_keys, ivl_map_keys_i64(map, &made))
 OF_CALL(map_numbers_with, ivl_map_numbers_with_i64(map, 1, &made))
 OF_CALL(map_gaps_within, ivl_map_gaps_within_i64(map, 0, 99, &made))
 OF_CALL(map_cut_to, ivl_map_cut_to_i64(map, 3, 60, &made_map))
+OF_CALL(solver_new, ivl_solver_new_i64(&made_solver))
+OF_CALL(solver_clone, ivl_solver_clone_i64(solver, &made_solver))
+OF_CALL(variables, ivl_solver_variables_i64(solver, 20, &run, 1))
+OF_CALL(restrict_run, ivl_solver_restrict_run_i64(solver, 0, 3, 4))
+OF_CALL(at_most, ivl_solver_at_most_i64(solver, 0, 1, 1))
+OF_CALL(all_different, ivl_solver_all_different_i64(solver, all, 3))
+OF_CALL(sum, ivl_solver_sum_i64(solver, all, 2, 2))
+OF_CALL(no_overlap, ivl_solver_no_overlap_i64(solver, tasks, 3))
+OF_CALL(solutions, ivl_solver_solutions_i64(solver, NULL, &made_solutions))
+OF_CALL(count_of, ivl_solver_count_i64(solver, NULL, &count))
+OF_CALL(minimize, ivl_solver_minimize_i64(solver, 1, NULL, numbers, 3))
 OF_CALL(map_first_fit, ivl_map_first_fit_i64(map, 0, 99, 1, &run))
 
 static const struct {
@@ -79,7 +69,9 @@ static const struct {
     {"intersect", intersect_in_place}, {"subtract", subtract_in_place}, {"unite itself", unite_itself}, {"runs", runs},
     {"map new", map_new}, {"map clone", map_clone}, {"map insert", map_insert}, {"map insert_if_free", map_insert_if_free},
     {"map remove", map_remove}, {"map keys", map_keys}, {"map numbers_with", map_numbers_with}, {"map gaps_within", map_gaps_within},
-    {"map cut_to", map_cut_to}, {"map first_fit", map_first_fit},
+    {"map cut_to", map_cut_to}, {"map first_fit", map_first_fit}, {"solver new", solver_new}, {"solver clone", solver_clone},
+    {"variables", variables}, {"restrict", restrict_run}, {"at_most", at_most}, {"all_different", all_different}, {"sum", sum},
+    {"no_overlap", no_overlap}, {"solutions", solutions}, {"count", count_of}, {"minimize", minimize},
 };
 
 static int failures, refusals;
@@ -97,7 +89,18 @@ static void fill(void) {
     for (int64_t i = 0; i < 600; i++)
         told |= ivl_set_insert_run_i64(a, 10 * i, 10 * i + 2) < 0 || ivl_set_insert_i64(b, 7 * i) < 0 ||
                 ivl_map_insert_i64(map, 2 * i, 2 * i + 1, (uint64_t)i % 5) < 0;
+    /* few of the numbers of three variables, and each kind of rule */
+    const ivl_pair_i64 domain = {1, 6};
+    told |= ivl_solver_new_i64(&solver) | ivl_solver_variables_i64(solver, 3, &domain, 1) | ivl_solver_at_most_i64(solver, 0, 1, 2) |
+            ivl_solver_no_overlap_i64(solver, tasks, 2) | ivl_solver_sum_i64(solver, all, 2, 2);
     expect(told == 0, "fill", "no code");
+}
+
+/* What is asked of the model before and after a call. */
+static uint64_t asked(void) {
+    uint64_t variables_now = 0, count_now = 0;
+    int64_t told = ivl_solver_variable_count_i64(solver, &variables_now) | ivl_solver_count_i64(solver, NULL, &count_now);
+    return told == 0 ? 1000 * variables_now + count_now : 0;
 }
 
 static void empty(void) {
@@ -106,8 +109,13 @@ static void empty(void) {
     ivl_set_free_i64(made);
     ivl_map_free_i64(map);
     ivl_map_free_i64(made_map);
+    ivl_solver_free_i64(solver);
+    ivl_solver_free_i64(made_solver);
+    ivl_solutions_free_i64(made_solutions);
     made = NULL;
     made_map = NULL;
+    made_solver = NULL;
+    made_solutions = NULL;
 }
 
 /* Makes a call with one request refused after so many that are met: whether one was refused. */
@@ -116,21 +124,22 @@ static int refuse_one(const char *name, int64_t (*call)(void), int before) {
     ivl_set_i64 *a_before = NULL;
     ivl_map_i64 *map_before = NULL;
     int64_t cloned = ivl_set_clone_i64(a, &a_before) | ivl_map_clone_i64(map, &map_before);
-    before_refusal = before;
+    uint64_t asked_before = asked();
+    refuse_after(before);
     int64_t told = call();
-    int was_refused = before_refusal < 0;
-    before_refusal = -1;
+    int is_one_refused = was_refused();
     expect(cloned == 0 && (told >= 0 || told == IVL_OUT_OF_MEMORY), name, "another code");
-    if (was_refused) {
+    if (is_one_refused) {
         refusals++;
         expect(told == IVL_OUT_OF_MEMORY, name, "no code");
-        expect(!made && !made_map, name, "a handle was written");
+        expect(!made && !made_map && !made_solver && !made_solutions, name, "a handle was written");
+        expect(asked_before > 3000 && asked() == asked_before, name, "the model was changed");
         expect(ivl_set_equal_i64(a, a_before) == 1 && ivl_map_equal_i64(map, map_before) == 1, name, "it was changed");
     }
     ivl_set_free_i64(a_before);
     ivl_map_free_i64(map_before);
     empty();
-    return was_refused;
+    return is_one_refused;
 }
 
 int main(void) {

@@ -48,6 +48,14 @@ extern "C" {
 #define IVL_NULL (-6)
 /* A fault of the library. Returned only by these, and not known to happen. */
 #define IVL_FAULT (-7)
+/* A limit ended a search before it found a solution, or all of them: there may be more. */
+#define IVL_UNFINISHED (-8)
+/* A search was told to stop. */
+#define IVL_STOPPED (-9)
+/* No variable of the model has this index. */
+#define IVL_UNKNOWN_VARIABLE (-10)
+/* A rule names a variable twice. */
+#define IVL_SAME_VARIABLE (-11)
 
 /* The number of the version of the library: compare it with IVL_VERSION_NUMBER. */
 int64_t ivl_version(void);
@@ -69,6 +77,14 @@ static inline const char *ivl_error_text(int64_t code) {
         return "a null pointer";
     case IVL_FAULT:
         return "a fault of the library";
+    case IVL_UNFINISHED:
+        return "a limit ended the search: there may be more solutions";
+    case IVL_STOPPED:
+        return "the search was told to stop";
+    case IVL_UNKNOWN_VARIABLE:
+        return "no variable of the model has this index";
+    case IVL_SAME_VARIABLE:
+        return "a rule names a variable twice";
     default:
         return code < 0 ? "no code of this library" : "no error";
     }

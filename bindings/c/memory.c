@@ -1,91 +1,40 @@
 /* Lets each request for memory of each call fail in turn: the call answers IVL_OUT_OF_MEMORY with nothing written, or its
-   right answer. Of lists of runs, eight of the calls make no request. Answers 0 where that holds. Linked with --wrap=malloc and the like, so that the library's requests come here. */
+   right answer. Of lists of runs, eight of the calls make no request. Answers 0 where that holds. */
 #include "intervallum.h"
 
+#include "refused.h"
+
 #include <stdio.h>
-#include <stdlib.h>
 #include <string.h>
 
 enum { ROOM = 16 };
 
 typedef int64_t call(const ivl_pair_i64 *a, size_t n, const ivl_pair_i64 *b, size_t m, ivl_pair_i64 *out, size_t room);
 
-void *__real_malloc(size_t size);
-void *__real_calloc(size_t count, size_t size);
-void *__real_realloc(void *block, size_t size);
-void *__wrap_malloc(size_t size);
-void *__wrap_calloc(size_t count, size_t size);
-void *__wrap_realloc(void *block, size_t size);
-
-/* How many requests are met before one is refused; none is where it is negative. */
-static int before_refusal = -1;
-
-static int is_refused(void) {
-    return before_refusal >= 0 && before_refusal-- == 0;
-}
-
-void *__wrap_malloc(size_t size) {
-    return is_refused() ? NULL : __real_malloc(size);
-}
-
-void *__wrap_calloc(size_t count, size_t size) {
-    return is_refused() ? NULL : __real_calloc(count, size);
-}
-
-void *__wrap_realloc(void *block, size_t size) {
-    return is_refused() ? NULL : __real_realloc(block, size);
-}
-
 /* The calls of another shape, in that of the others. */
-static int64_t normalize(const ivl_pair_i64 *a, size_t n, const ivl_pair_i64 *b, size_t m, ivl_pair_i64 *out, size_t room) {
-    (void)b, (void)m;
-    return ivl_normalize_i64(a, n, out, room);
+#define OTHERWISE(name, told)                                                                                                    \
+    static int64_t name(const ivl_pair_i64 *a, size_t n, const ivl_pair_i64 *b, size_t m, ivl_pair_i64 *out, size_t room) {      \
+        (void)b, (void)m, (void)out, (void)room;                                                                                 \
+        return told;                                                                                                             \
+    }
+
+/* A call that writes a size, which stands in the first place of the buffer. */
+static int64_t told_size(ivl_pair_i64 *out, int64_t told, uint64_t size) {
+    if (told >= 0)
+        out[0].lower = (int64_t)size;
+    return told;
 }
 
-static int64_t complement(const ivl_pair_i64 *a, size_t n, const ivl_pair_i64 *b, size_t m, ivl_pair_i64 *out, size_t room) {
-    (void)b, (void)m;
-    return ivl_complement_i64(a, n, out, room);
-}
-
-static int64_t is_subset(const ivl_pair_i64 *a, size_t n, const ivl_pair_i64 *b, size_t m, ivl_pair_i64 *out, size_t room) {
-    (void)out, (void)room;
-    return ivl_is_subset_i64(a, n, b, m);
-}
-
-static int64_t overlap(const ivl_pair_i64 *a, size_t n, const ivl_pair_i64 *b, size_t m, ivl_pair_i64 *out, size_t room) {
-    (void)out, (void)room;
-    return ivl_overlap_i64(a, n, b, m);
-}
-
-static int64_t equal(const ivl_pair_i64 *a, size_t n, const ivl_pair_i64 *b, size_t m, ivl_pair_i64 *out, size_t room) {
-    (void)out, (void)room;
-    return ivl_equal_i64(a, n, b, m);
-}
-
-static int64_t size_of(const ivl_pair_i64 *a, size_t n, const ivl_pair_i64 *b, size_t m, ivl_pair_i64 *out, size_t room) {
-    (void)b, (void)m, (void)room;
+static int64_t size_of(const ivl_pair_i64 *a, size_t n, ivl_pair_i64 *out) {
     uint64_t size = (uint64_t)out[0].lower;
     int64_t told = ivl_size_i64(a, n, &size);
-    out[0].lower = (int64_t)size;
-    return told;
+    return told_size(out, told, size);
 }
 
-static int64_t first_fit(const ivl_pair_i64 *a, size_t n, const ivl_pair_i64 *b, size_t m, ivl_pair_i64 *out, size_t room) {
-    (void)b, (void)m, (void)room;
-    return ivl_first_fit_i64(a, n, 2, out);
-}
-
-static int64_t rank(const ivl_pair_i64 *a, size_t n, const ivl_pair_i64 *b, size_t m, ivl_pair_i64 *out, size_t room) {
-    (void)b, (void)m, (void)room;
-    uint64_t found = (uint64_t)out[0].lower;
-    int64_t told = ivl_rank_i64(a, n, 40, &found);
-    out[0].lower = (int64_t)found;
-    return told;
-}
-
-static int64_t nth(const ivl_pair_i64 *a, size_t n, const ivl_pair_i64 *b, size_t m, ivl_pair_i64 *out, size_t room) {
-    (void)b, (void)m, (void)room;
-    return ivl_nth_i64(a, n, 3, &out[0].lower);
+static int64_t rank_of(const ivl_pair_i64 *a, size_t n, ivl_pair_i64 *out) {
+    uint64_t rank = (uint64_t)out[0].lower;
+    int64_t told = ivl_rank_i64(a, n, 40, &rank);
+    return told_size(out, told, rank);
 }
 
 /* The list in the buffer is changed only by a call that answers; what it had is put back for the comparison. */
@@ -101,15 +50,17 @@ static int64_t edited(int64_t edit(ivl_pair_i64 *, size_t, size_t, int64_t, int6
     return told;
 }
 
-static int64_t insert(const ivl_pair_i64 *a, size_t n, const ivl_pair_i64 *b, size_t m, ivl_pair_i64 *out, size_t room) {
-    (void)b, (void)m, (void)room;
-    return edited(ivl_insert_i64, a, n, out);
-}
-
-static int64_t remove_run(const ivl_pair_i64 *a, size_t n, const ivl_pair_i64 *b, size_t m, ivl_pair_i64 *out, size_t room) {
-    (void)b, (void)m, (void)room;
-    return edited(ivl_remove_i64, a, n, out);
-}
+OTHERWISE(normalize, ivl_normalize_i64(a, n, out, room))
+OTHERWISE(complement, ivl_complement_i64(a, n, out, room))
+OTHERWISE(is_subset, ivl_is_subset_i64(a, n, b, m))
+OTHERWISE(overlap, ivl_overlap_i64(a, n, b, m))
+OTHERWISE(equal, ivl_equal_i64(a, n, b, m))
+OTHERWISE(size, size_of(a, n, out))
+OTHERWISE(first_fit, ivl_first_fit_i64(a, n, 2, out))
+OTHERWISE(rank, rank_of(a, n, out))
+OTHERWISE(nth, ivl_nth_i64(a, n, 3, &out[0].lower))
+OTHERWISE(insert, edited(ivl_insert_i64, a, n, out))
+OTHERWISE(remove_run, edited(ivl_remove_i64, a, n, out))
 
 static const struct {
     const char *name;
@@ -119,7 +70,7 @@ static const struct {
     {"symmetric_difference", ivl_symmetric_difference_i64}, {"complement", complement}, {"is_subset", is_subset},
     {"overlap", overlap}, {"equal", equal}, {"sums", ivl_sums_i64}, {"differences", ivl_differences_i64},
     {"sums_within", ivl_sums_within_i64}, {"differences_within", ivl_differences_within_i64},
-    {"products", ivl_products_i64}, {"normalize", normalize}, {"size", size_of}, {"first_fit", first_fit},
+    {"products", ivl_products_i64}, {"normalize", normalize}, {"size", size}, {"first_fit", first_fit},
     {"rank", rank}, {"nth", nth}, {"insert", insert}, {"remove", remove_run},
 };
 
@@ -133,16 +84,15 @@ static int refuse_one(call *made, int before, int64_t right, const ivl_pair_i64 
     memset(out, 0x55, sizeof out);
     memset(untouched, 0x55, sizeof untouched);
 
-    before_refusal = before;
+    refuse_after(before);
     int64_t told = made(first, 4, second, 3, out, ROOM);
-    int was_refused = before_refusal < 0;
-    before_refusal = -1;
+    int is_one_refused = was_refused();
 
     int is_right = told == right && memcmp(out, answer, sizeof out) == 0;
     int is_code = told == IVL_OUT_OF_MEMORY && memcmp(out, untouched, sizeof out) == 0;
-    if (!is_right && !(was_refused && is_code))
+    if (!is_right && !(is_one_refused && is_code))
         (*failures)++;
-    return was_refused;
+    return is_one_refused;
 }
 
 static int refuse_each(call *made, const char *name) {
@@ -168,13 +118,12 @@ static const ivl_pair_i64 others[] = {{2, 3}, {7, 7}, {33, 65}};
 static int refuse_all(call *made, const char *name, size_t room) {
     ivl_pair_i64 out[ROOM];
 
-    before_refusal = 0;
+    refuse_after(0);
     int64_t told = made(runs, 3, others, 3, out, room);
-    int was_refused = before_refusal < 0;
-    before_refusal = -1;
-    if (told < 0 || was_refused)
+    int is_wrong = was_refused() || told < 0;
+    if (is_wrong)
         printf("failed: %s of lists of runs in a room of %zu\n", name, room);
-    return told < 0 || was_refused;
+    return is_wrong;
 }
 
 int main(void) {

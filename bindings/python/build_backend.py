@@ -24,7 +24,8 @@ import zipfile
 
 HERE = os.path.dirname(os.path.abspath(__file__))
 TOP = os.path.dirname(os.path.dirname(HERE))
-SOURCES = ("intervallum/__init__.py", "intervallum/_calls.py", "intervallum/_dates.py", "intervallum/_mutable.py", "intervallum/_runs.py", "intervallum/py.typed")
+MODULES = ("__init__", "_calls", "_dates", "_forms", "_given", "_handles", "_model", "_mutable", "_runs")
+SOURCES = (*("intervallum/%s.py" % name for name in MODULES), "intervallum/py.typed")
 LIBRARY = "intervallum/libintervallum.so"
 LICENSES = ("LICENSE-APACHE", "LICENSE-MIT")
 # what an archive of the sources has of bindings/rust, in its folder `rust`
@@ -39,7 +40,10 @@ def _read(path):
 def _project():
     """The texts of pyproject.toml by their keys. Python has a reader of TOML only since 3.11."""
     text = _read(os.path.join(HERE, "pyproject.toml")).decode()
-    return dict(re.findall(r'(?m)^([\w-]+) = "([^"]*)"$', text))
+    project = dict(re.findall(r'(?m)^([\w-]+) = "([^"]*)"$', text))
+    project["keywords"] = ",".join(re.findall(r'"([^"]*)"', re.search(r"(?m)^keywords = (.*)$", text).group(1)))
+    project["classifiers"] = "".join("Classifier: %s\n" % one for one in re.findall(r'(?m)^    "(.* :: .*)",$', text))
+    return project
 
 
 def _metadata():
@@ -47,7 +51,7 @@ def _metadata():
     about = re.match(r'"""(.*?)"""', _read(os.path.join(HERE, SOURCES[0])).decode(), re.S).group(1)
     return (
         "Metadata-Version: 2.1\nName: %(name)s\nVersion: %(version)s\nSummary: %(description)s\nLicense: %(license)s\n"
-        "Requires-Python: %(requires-python)s\nClassifier: Typing :: Typed\nDescription-Content-Type: text/plain\n\n" % project
+        "Keywords: %(keywords)s\nRequires-Python: %(requires-python)s\n%(classifiers)sDescription-Content-Type: text/plain\n\n" % project
         + about
     ).encode()
 
@@ -127,10 +131,19 @@ def _library():
 # ---- what pip calls
 
 
-def _wheel(folder, files):
+def _platform(library):
+    """The platform of a shared library: with glibc, the least version of it that has what the library calls."""
+    own = re.sub(r"[-.]", "_", sysconfig.get_platform())
+    versions = [int(number) for number in re.findall(rb"\0GLIBC_2\.(\d+)(?:\.\d+)?(?=\0)", library)]
+    if not own.startswith("linux_") or not versions:
+        return own
+    return own.replace("linux", "manylinux_2_%d" % max(17, *versions), 1)
+
+
+def _wheel(folder, files, library):
     project = _project()
     name = "%s-%s" % (project["name"].replace("-", "_"), project["version"])
-    tag = "py3-none-" + re.sub(r"[-.]", "_", sysconfig.get_platform())
+    tag = "py3-none-" + _platform(library)
     info = name + ".dist-info/"
     files = {**files, info + "METADATA": _metadata()}
     files[info + "WHEEL"] = ("Wheel-Version: 1.0\nGenerator: intervallum\nRoot-Is-Purelib: false\nTag: %s\n" % tag).encode()
@@ -148,7 +161,8 @@ def _wheel(folder, files):
 
 def build_wheel(wheel_directory, config_settings=None, metadata_directory=None):
     files = {path: _read(os.path.join(HERE, path)) for path in SOURCES}
-    return _wheel(wheel_directory, {**files, LIBRARY: _library()})
+    made = _library()
+    return _wheel(wheel_directory, {**files, LIBRARY: made}, made)
 
 
 def build_editable(wheel_directory, config_settings=None, metadata_directory=None):
@@ -156,14 +170,14 @@ def build_editable(wheel_directory, config_settings=None, metadata_directory=Non
     made = _library()
     with open(os.path.join(HERE, LIBRARY), "wb") as file:
         file.write(made)
-    return _wheel(wheel_directory, {"intervallum_proved.pth": HERE.encode()})
+    return _wheel(wheel_directory, {"intervallum_proved.pth": HERE.encode()}, made)
 
 
 def build_sdist(sdist_directory, config_settings=None):
     project = _project()
     name = "%s-%s" % (project["name"].replace("-", "_"), project["version"])
     crate = os.path.dirname(_crate())
-    files = {path: _read(os.path.join(HERE, path)) for path in (*SOURCES, "pyproject.toml", "build_backend.py")}
+    files = {path: _read(os.path.join(HERE, path)) for path in (*SOURCES, "pyproject.toml", "build_backend.py", "leases.py", "tests/test_intervallum.py")}
     files.update(_licenses())
     for part in CRATE:
         for path in _files(os.path.join(crate, part)):

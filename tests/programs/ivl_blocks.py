@@ -10,22 +10,34 @@ class Blocks(FreeNumbers):
     """The runs of the free blocks, ascending."""
 
     least, greatest, most = 0, LAST, LAST + 1
-    refused = {
-        b"take": b"error: write take COUNT, with a count from 1 to 1099511627776\n",
-        b"give": b"error: write give FIRST LAST, blocks from 0 to 1099511627775 in order\n",
-        b"free": b"error: write free\n",
-        b"largest": b"error: write largest\n",
-        None: b"error: write take COUNT, give FIRST LAST, free or largest\n",
+    helps = {
+        b"take": "take COUNT: takes the lowest so many free blocks in a row; take COUNT at BLOCK: those from this block on; take COUNT above BLOCK: the lowest above it",
+        b"give": "give FIRST LAST: gives blocks back, unless one of them is free",
+        b"free": "free: how many blocks are free, and in how many runs",
+        b"largest": "largest: the lowest of the longest runs of free blocks",
+        b"help": "help: the commands; help COMMAND: what one does",
     }
 
     def __init__(self):
         self.runs = [(0, LAST)]
 
-    def take(self, count):
+    def taken(self, i, first, last):
+        """Takes numbers out of a run that has them."""
+        lower, upper = self.runs[i]
+        self.runs[i : i + 1] = [run for run in ((lower, first - 1), (last + 1, upper)) if run[0] <= run[1]]
+        return b"[%d..%d]\n" % (first, last)
+
+    def take(self, count, least):
         for i, (lower, upper) in enumerate(self.runs):
-            if upper - lower + 1 >= count:
-                self.runs[i : i + 1] = [(lower + count, upper)] if lower + count <= upper else []
-                return b"[%d..%d]\n" % (lower, lower + count - 1)
+            first = max(lower, least)
+            if upper - first + 1 >= count:
+                return self.taken(i, first, first + count - 1)
+        return b"none\n"
+
+    def take_at(self, count, first):
+        for i, (lower, upper) in enumerate(self.runs):
+            if lower <= first and first + count - 1 <= upper:
+                return self.taken(i, first, first + count - 1)
         return b"none\n"
 
     def give(self, first, last):
@@ -40,7 +52,8 @@ class Blocks(FreeNumbers):
         return b"ok\n"
 
     def shown(self):
-        return b"%d free in %d runs\n" % (sum(upper - lower + 1 for lower, upper in self.runs), len(self.runs))
+        word = b"run" if len(self.runs) == 1 else b"runs"
+        return b"%d free in %d %s\n" % (sum(upper - lower + 1 for lower, upper in self.runs), len(self.runs), word)
 
     def largest(self):
         if not self.runs:
@@ -64,9 +77,14 @@ def random_run(dice):
     return [str(first), str(last)]
 
 
+def random_place(dice):
+    """Where blocks are to be taken, if it is said."""
+    return [] if dice.random() < 0.5 else [dice.choice(["at", "above"]), random_run(dice)[0]]
+
+
 def random_line(dice):
     name = dice.choice(["take", "take", "take", "give", "give", "give", "free", "largest"])
-    words = {"take": lambda: [random_count(dice)], "give": lambda: random_run(dice)}.get(name, list)()
+    words = {"take": lambda: [random_count(dice)] + random_place(dice), "give": lambda: random_run(dice)}.get(name, list)()
     if dice.random() < 0.03:
         words = dice.choice([words + ["1"], words[1:], words + ["free"]])
     return dice.choice([" ", " ", "  "]).join([name] + words).encode() + dice.choice([b"", b"", b"\r", b" "])

@@ -5,15 +5,9 @@ import datetime
 import re
 
 from ivl_run import number
-from lines import Commands, main
+from lines import Commands, error, escaped, form, main, unknown_command
 
-ROOM = b"error: write room NAME, with a new name\n"
-BOOK = b"error: write book NAME FIRST LAST, with a known room and dates in order, such as 2026-03-01\n"
-GAP = b"error: write gap NAME DAYS FIRST LAST, with a known room, 1 to 4294967295 days and dates in order\n"
-FREE = b"error: write free FIRST LAST, with dates in order, such as 2026-03-01\n"
-WHO = b"error: write who NAME DATE, with a known room and a date such as 2026-03-01\n"
-OF = b"error: write of NAME, with one name\n"
-COMMANDS = b"error: write room, book, gap, free, who or of\n"
+BOOK = b"book ROOM FIRST LAST or book ROOM FIRST LAST WHO"
 DATE = re.compile(rb"(-00[0-9]{4}|[0-9]{4})-([0-9]{2})-([0-9]{2})")
 # The calendar repeats after 400 years. Python has the years from 1 to 9999.
 CYCLE = 146097
@@ -40,12 +34,24 @@ def date_text(number):
     return f"{year:04}{str(date)[4:]}" if year >= 0 else f"-{-year:06}{str(date)[4:]}"
 
 
-def window_of(words):
-    """The days from one date to another, or None."""
-    days = [day(word) for word in words]
-    if len(days) != 2 or None in days or days[0] > days[1]:
-        return None
-    return range(days[0], days[1] + 1)
+class Wrong(Exception):
+    """What is wrong with a line."""
+
+
+def day_in(word):
+    """The day whose date a word is."""
+    one = day(word)
+    if one is None:
+        raise Wrong(error(escaped(word), b"is no day"))
+    return one
+
+
+def window_of(first, last):
+    """The days from one date to another."""
+    low, high = day_in(first), day_in(last)
+    if high < low:
+        raise Wrong(error(escaped(last), b"is before", escaped(first)))
+    return range(low, high + 1)
 
 
 def span(first, last):
@@ -74,78 +80,133 @@ def named_runs(bookings):
     return [run for run in runs if run[2] is not None]
 
 
-def shown(name):
-    """A name with its control characters escaped."""
-    escapes = {"\t": "\\t", "\r": "\\r"}
-    marks = (escapes.get(mark, f"\\u{{{ord(mark):x}}}") if ord(mark) < 32 or 127 <= ord(mark) < 160 else mark for mark in name.decode())
-    return "".join(marks).encode()
-
-
 class Calendar(Commands):
     """The days on which each room is busy, each with the name for which it is booked, or None."""
+
+    helps = {
+        b"room": "room NAME: a new room, free on all days",
+        b"rooms": "rooms: the names of the rooms",
+        b"book": "book ROOM FIRST LAST WHO: books a room from the first day to the last, such as book blue 2026-03-01 2026-03-04 anna; the name may be left out",
+        b"cancel": "cancel ROOM FIRST LAST: frees a room from the first day to the last, whoever booked it",
+        b"show": "show ROOM: the bookings of a room, those with a name first",
+        b"gap": "gap ROOM DAYS FIRST LAST: the first so many days in a row on which a room is free, between two days",
+        b"free": "free FIRST LAST: the days between two days on which all rooms are free",
+        b"who": "who ROOM DATE: the name for which a room is booked on a day, booked without a name, or free",
+        b"of": "of WHO: the days that are booked for a name, each after its room",
+        b"help": "help: the commands; help COMMAND: what one does",
+    }
 
     def __init__(self):
         self.rooms = {}
 
     def answer_command(self, name, words):
-        answers = {b"room": self.room, b"book": self.book, b"gap": self.gap, b"free": self.free, b"who": self.who, b"of": self.of}
-        return answers[name](words) if name in answers else COMMANDS
+        answers = {
+            b"room": self.room,
+            b"rooms": self.list_rooms,
+            b"book": self.book,
+            b"cancel": self.cancel,
+            b"show": self.show,
+            b"gap": self.gap,
+            b"free": self.free,
+            b"who": self.who,
+            b"of": self.of,
+        }
+        try:
+            return answers[name](words) if name in answers else unknown_command(name)
+        except Wrong as wrong:
+            return wrong.args[0]
+
+    def known(self, name):
+        """The bookings of a room."""
+        if name not in self.rooms:
+            raise Wrong(error(b"unknown room", escaped(name)))
+        return self.rooms[name]
 
     def room(self, words):
-        if len(words) != 1 or words[0] in self.rooms:
-            return ROOM
+        if len(words) != 1:
+            return form(b"room NAME")
+        if words[0] in self.rooms:
+            return error(escaped(words[0]), b"is a room already")
         self.rooms[words[0]] = {}
         return b"ok\n"
 
+    def list_rooms(self, words):
+        if words:
+            return form(b"rooms")
+        return (b", ".join(escaped(name) for name in sorted(self.rooms)) or b"none") + b"\n"
+
     def book(self, words):
-        days = window_of(words[1:3])
-        if days is None or words[0] not in self.rooms or len(words) > 4:
-            return BOOK
+        if len(words) < 3:
+            return form(BOOK)
+        days = window_of(*words[1:3])
+        if len(words) > 4:
+            return form(BOOK)
         name = words[3] if len(words) == 4 else None
         if name is not None and (day(name) is not None or name == b"free"):
-            return BOOK
-        bookings = self.rooms[words[0]]
+            return error(escaped(name), b"is no name")
+        bookings = self.known(words[0])
         in_the_way = [one for one in days if one in bookings]
         if not in_the_way:
             bookings.update((one, name) for one in days)
             return b"booked\n"
         for first, last, by in named_runs(bookings):
             if any(first <= one <= last for one in in_the_way):
-                return b"taken by " + shown(by) + b" " + span(first, last) + b"\n"
+                return b"taken by " + escaped(by) + b" " + span(first, last) + b"\n"
         return b"taken\n"
 
+    def cancel(self, words):
+        if len(words) != 3:
+            return form(b"cancel ROOM FIRST LAST")
+        days = window_of(*words[1:])
+        bookings = self.known(words[0])
+        booked = [one for one in days if bookings.pop(one, self) is not self]
+        return b"cancelled\n" if booked else b"not booked\n"
+
+    def show(self, words):
+        if len(words) != 1:
+            return form(b"show ROOM")
+        bookings = self.known(words[0])
+        named = [span(first, last) + b" " + escaped(by) for first, last, by in named_runs(bookings)]
+        unnamed = [span(first, last) for first, last in runs_of(sorted(one for one in bookings if bookings[one] is None))]
+        return (b", ".join(named + unnamed) or b"free") + b"\n"
+
     def gap(self, words):
-        days = window_of(words[2:])
-        count = number(words[1]) if len(words) == 4 else None
-        if days is None or count is None or not 1 <= count < 2**32 or words[0] not in self.rooms:
-            return GAP
-        for first, last in runs_of(one for one in days if one not in self.rooms[words[0]]):
+        if len(words) != 4:
+            return form(b"gap ROOM DAYS FIRST LAST")
+        count = number(words[1])
+        if count is None:
+            return error(escaped(words[1]), b"is no number")
+        if not 1 <= count < 2**32:
+            return error(escaped(words[1]), b"is below 1" if count < 1 else b"is above 4294967295")
+        days = window_of(*words[2:])
+        bookings = self.known(words[0])
+        for first, last in runs_of(one for one in days if one not in bookings):
             if last - first + 1 >= count:
                 return span(first, first + count - 1) + b"\n"
         return b"none\n"
 
     def free(self, words):
-        days = window_of(words)
-        if days is None:
-            return FREE
+        if len(words) != 2:
+            return form(b"free FIRST LAST")
+        days = window_of(*words)
         busy = set().union(*self.rooms.values())
         runs = runs_of(one for one in days if one not in busy)
         return (b", ".join(span(first, last) for first, last in runs) or b"none") + b"\n"
 
     def who(self, words):
-        one = day(words[1]) if len(words) == 2 else None
-        if one is None or words[0] not in self.rooms:
-            return WHO
-        bookings = self.rooms[words[0]]
+        if len(words) != 2:
+            return form(b"who ROOM DATE")
+        one = day_in(words[1])
+        bookings = self.known(words[0])
         if one not in bookings:
             return b"free\n"
-        return (b"booked without a name" if bookings[one] is None else shown(bookings[one])) + b"\n"
+        return (b"booked without a name" if bookings[one] is None else escaped(bookings[one])) + b"\n"
 
     def of(self, words):
         if len(words) != 1:
-            return OF
+            return form(b"of WHO")
         listed = [
-            shown(room) + b" " + span(first, last)
+            escaped(room) + b" " + span(first, last)
             for room in sorted(self.rooms)
             for first, last, name in named_runs(self.rooms[room])
             if name == words[0]
@@ -187,11 +248,11 @@ def random_count(dice):
 
 
 def random_line(dice):
-    name = dice.choice(["room", "book", "book", "book", "book", "gap", "gap", "free", "free", "who", "who", "of"])
+    name = dice.choice(["room", "book", "book", "book", "book", "cancel", "cancel", "gap", "gap", "free", "free", "who", "who", "of", "rooms", "show"])
     room = dice.choice(NAMES[: dice.choice([3, 3, 3, len(NAMES)])])
     who = dice.choice(PEOPLE[: dice.choice([2, 2, 4, len(PEOPLE)])])
-    forms = {"room": [room], "book": [room], "gap": [room, random_count(dice)], "free": [], "who": [room], "of": [who]}
-    dates = {"room": 0, "of": 0, "who": 1}.get(name, 2)
+    forms = {"room": [room], "rooms": [], "show": [room], "cancel": [room], "book": [room], "gap": [room, random_count(dice)], "free": [], "who": [room], "of": [who]}
+    dates = {"room": 0, "rooms": 0, "show": 0, "of": 0, "who": 1}.get(name, 2)
     words = [name] + forms[name] + random_window(dice)[:dates]
     if name == "book" and dice.random() < 0.6:
         words.append(who)

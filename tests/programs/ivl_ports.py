@@ -4,42 +4,82 @@
 import re
 
 from ivl_run import number
-from lines import Commands, main
+from lines import Commands, error, escaped, form, main, unknown_command
+
+TAKE = b"take COUNT, take COUNT at NUMBER or take COUNT above NUMBER"
+
+
+class Wrong(Exception):
+    """What is wrong with a line."""
+
+
+def number_in(least, most, word):
+    """The number that a word is, which is in this range."""
+    value = number(word)
+    if value is None:
+        raise Wrong(error(escaped(word), b"is no number"))
+    if value < least:
+        raise Wrong(error(escaped(word), b"is below %d" % least))
+    if value > most:
+        raise Wrong(error(escaped(word), b"is above %d" % most))
+    return value
 
 
 class FreeNumbers(Commands):
-    """Numbers from `least` to `greatest`, which are taken, `most` at a time, and given back; `refused` has the answer to a line that is not understood."""
+    """Numbers from `least` to `greatest`, which are taken, `most` at a time, and given back."""
 
     def answer_command(self, name, words):
-        numbers = [number(word) for word in words]
-        if name == b"take" and len(numbers) == 1 and numbers[0] is not None and 1 <= numbers[0] <= self.most:
-            return self.take(*numbers)
-        if name == b"give" and len(numbers) == 2 and self.are_in_range(numbers) and numbers[0] <= numbers[1]:
-            return self.give(*numbers)
-        if name in self.shows and not words:
-            return self.shows[name](self)
-        return self.refused.get(name, self.refused[None])
+        try:
+            if name == b"take":
+                return self.take_line(words)
+            if name == b"give":
+                return self.give_line(words)
+        except Wrong as wrong:
+            return wrong.args[0]
+        if name in self.shows:
+            return form(name) if words else self.shows[name](self)
+        return unknown_command(name)
 
-    def are_in_range(self, numbers):
-        return all(value is not None and self.least <= value <= self.greatest for value in numbers)
+    def take_line(self, words):
+        if not words:
+            return form(TAKE)
+        count = number_in(1, self.most, words[0])
+        if len(words) == 1:
+            return self.take(count, self.least)
+        if len(words) != 3 or words[1] not in (b"at", b"above"):
+            return form(TAKE)
+        place = number_in(self.least, self.greatest, words[2])
+        return self.take_at(count, place) if words[1] == b"at" else self.take(count, place + 1)
+
+    def give_line(self, words):
+        if len(words) != 2:
+            return form(b"give FIRST LAST")
+        first = number_in(self.least, self.greatest, words[0])
+        return self.give(first, number_in(first, self.greatest, words[1]))
 
 
 class Ports(FreeNumbers):
     """A byte for each number from 0 to 65535, which is 1 if it is a free port."""
 
     least, greatest, most = 1024, 65535, 65535
-    refused = {
-        b"take": b"error: write take COUNT, with a count from 1 to 65535\n",
-        b"give": b"error: write give FIRST LAST, ports from 1024 to 65535 in order\n",
-        b"free": b"error: write free\n",
-        None: b"error: write take COUNT, give FIRST LAST or free\n",
+    helps = {
+        b"take": "take COUNT: takes the lowest so many free ports in a row; take COUNT at PORT: those from this port on; take COUNT above PORT: the lowest above it",
+        b"give": "give FIRST LAST: gives ports back, unless one of them is free",
+        b"free": "free: how many ports are free, and which",
+        b"help": "help: the commands; help COMMAND: what one does",
     }
 
     def __init__(self):
         self.free = bytearray(1024) + bytearray(b"\1" * (65536 - 1024))
 
-    def take(self, count):
-        first = self.free.find(b"\1" * count)
+    def take_at(self, count, first):
+        if self.free[first : first + count] != b"\1" * count:
+            return b"none\n"
+        self.free[first : first + count] = bytes(count)
+        return b"[%d..%d]\n" % (first, first + count - 1)
+
+    def take(self, count, least):
+        first = self.free.find(b"\1" * count, least)
         if first < 0:
             return b"none\n"
         self.free[first : first + count] = bytes(count)
@@ -73,9 +113,16 @@ def random_run(dice):
     return [str(first), str(last)]
 
 
+def random_place(dice):
+    """Where numbers are to be taken, if it is said."""
+    if dice.random() < 0.5:
+        return []
+    return [dice.choice(["at", "above", "at", "above", "on"] if dice.random() < 0.1 else ["at", "above"]), random_run(dice)[0]]
+
+
 def random_line(dice):
     name = dice.choice(["take", "take", "take", "give", "give", "give", "free"])
-    words = {"take": lambda: [random_count(dice)], "give": lambda: random_run(dice), "free": lambda: []}[name]()
+    words = {"take": lambda: [random_count(dice)] + random_place(dice), "give": lambda: random_run(dice), "free": lambda: []}[name]()
     if dice.random() < 0.03:
         words = dice.choice([words + ["1"], words[1:], words + ["free"]])
     return dice.choice([" ", " ", "  "]).join([name] + words).encode() + dice.choice([b"", b"", b"\r", b" "])

@@ -2,11 +2,10 @@
 """The check of ranges beside plain lists of pairs: usage: tests/programs/ivl_ranges.py [PROGRAM] [--seconds N] [--seed N]"""
 
 from ivl_run import GREATEST, LEAST, joined, number, text
-from lines import Commands, main
+from lines import Commands, main, unknown_command
 
 RANGES = b"error: write ranges such as -1..1 5..5, with the lower end first\n"
 LENGTH = b"error: write length NUMBER, from 0 to 4294967295\n"
-COMMANDS = b"error: write i RANGES, k RANGES, length NUMBER or check\n"
 
 
 def range_from(word):
@@ -29,6 +28,14 @@ def safe_in(index, offset, length):
 class Access(Commands):
     """The runs of i and of k, and the length of the array."""
 
+    helps = {
+        b"i": "i RANGES: the values that i may have, such as i -1..1 5..5, the lower end first",
+        b"k": "k RANGES: the values that k may have, such as k -1..1 5..5, the lower end first",
+        b"length": "length NUMBER: the length of the array",
+        b"check": "check: safe, or the values of i that are safe for every k",
+        b"help": "help: the commands; help COMMAND: what one does",
+    }
+
     def __init__(self):
         self.index = []
         self.offset = []
@@ -41,7 +48,7 @@ class Access(Commands):
             return self.set_length([number(word) for word in words])
         if name == b"check":
             return b"error: write check\n" if words else self.check()
-        return COMMANDS
+        return unknown_command(name)
 
     def set_ranges(self, name, ranges):
         if not ranges or None in ranges:

@@ -165,9 +165,12 @@ class Counted(Searched):
 
     def after(self, written, place):
         lines = written[place:].split(b"\n", 2)
-        if len(lines) < 3 or not lines[0].startswith(b"count ") or not lines[0][6:].isdigit():
+        if len(lines) < 3:
             return None
-        found = int(lines[0][6:])
+        says = b"count at least " if lines[1] in (b"unfinished", b"more possible") else b"count "
+        if not lines[0].startswith(says) or not lines[0].removeprefix(says).isdigit():
+            return None
+        found = int(lines[0].removeprefix(says))
         is_right = self.first(found) == found and self.is_end(lines[1], found, None)
         return len(written) - len(lines[2]) if is_right else None
 
@@ -298,9 +301,12 @@ class Solver(Commands):
             return escaped(words[0]) + b" is defined already"
         if name == b"cut" and words[0] not in self.domains:
             return b"unknown variable " + escaped(words[0])
-        if any(number(lower) < LEAST for lower in words[1::2]):
+        if name == b"var" and number(words[0]) is not None:
+            return words[0] + b" is a number"
+        pairs = [(number(lower), number(upper)) for lower, upper in zip(words[1::2], words[2::2])]
+        if any(bound < LEAST for pair in pairs for bound in pair):
             return b"out of range"
-        return None
+        return next((b"%d is above %d" % (lower, upper) for lower, upper in pairs if lower > upper), None)
 
     def fault_of_show(self, words):
         if len(words) > 1:
@@ -428,7 +434,7 @@ def random_pairs(dice):
     pairs = []
     for _ in range(dice.choice([0, 1, 1, 2, 3])):
         lower = dice.randrange(-10, 11)
-        pairs += [lower, lower + dice.randrange(-1, 6)]
+        pairs += [lower, lower + (dice.randrange(6) if dice.random() < 0.95 else -1)]
     words = [str(value) for value in pairs]
     if words and dice.random() < 0.05:
         words[dice.randrange(len(words))] = dice.choice(["+1", "x", "1.5", str(2**63), "-"])
@@ -452,7 +458,7 @@ def random_rule(dice, variable):
 
 
 def random_line(dice):
-    variable = lambda: dice.choice(["x", "y", "z", "u", "v", "w"] if dice.random() < 0.95 else ["q", "\u00e9", "xx", "\t", "\x1b[2J", "\u00e9\\\x9b", "\0\x7f", "x\r\ry"])
+    variable = lambda: dice.choice(["x", "y", "z", "u", "v", "w"] if dice.random() < 0.95 else ["q", "7", "-4", "+5", "\u00e9", "xx", "\t", "\x1b[2J", "\u00e9\\\x9b", "\0\x7f", "x\r\ry"])
     name = dice.choice(["var", "cut", "cut", "sum", "sum", "different", "", "", "", "show", "show", "limit", "go", "solve", "count", "min", "max"])
     if name == "sum":
         parts = dice.sample("xyzuvw", 3) if dice.random() < 0.8 else [variable() for _ in range(dice.choice([3, 3, 2, 4]))]

@@ -35,7 +35,8 @@ def line_of(name, chance):
     """A random line of a program, sometimes one that is refused."""
     number = chance.randint
     if name == "ports":
-        return chance.choice([f"take {number(1, 9)}", f"give {number(1024, 1100)} {number(1024, 1100)}", "free", "tkae 3", f"take {number(1, 70000)}"])
+        return chance.choice([f"take {number(1, 9)}", f"give {number(1024, 1100)} {number(1024, 1100)}", "free", "tkae 3", f"take {number(1, 70000)}", "# take 9", "help",
+                              f"take {number(1, 9)} at {number(1024, 1100)}", f"take 3 above {number(1024, 1100)}"])
     if name == "blocks":
         return chance.choice([f"take {number(1, 99)}", f"give {number(0, 300)} {number(0, 300)}", "free", "largest", "take x"])
     if name == "run":
@@ -48,7 +49,7 @@ def line_of(name, chance):
     if name == "ranges":
         return chance.choice([f"i {number(-9, 0)}..{number(0, 9)}", f"k {number(-2, 0)}..{number(0, 2)}", f"length {number(0, 12)}", "check", "length -"])
     room, day = chance.choice(["red", "blue"]), number(1, 25)
-    return chance.choice([f"room {room}", f"book {room} 2026-03-{day:02} 2026-03-{day + 3:02} {chance.choice(['anna', 'bo'])}", f"who {room} 2026-03-{day:02}",
+    return chance.choice([f"room {room}", "rooms", f"show {room}", f"cancel {room} 2026-03-{day:02} 2026-03-{day + 1:02}", f"book {room} 2026-03-{day:02} 2026-03-{day + 3:02} {chance.choice(['anna', 'bo'])}", f"who {room} 2026-03-{day:02}",
                           f"free 2026-03-01 2026-03-31", f"gap {room} 2 2026-03-01 2026-03-31", "of anna", "book"])
 
 
@@ -123,6 +124,42 @@ def no_room(work):
     expect("what is kept", told("ports", ["free"], path), (0, f"{64512 - answered} free: [{1024 + answered}..65535]\n", ""))
 
 
+# What the program tells of its state, and whether its lines can be had.
+LOOKS = {"run": [f"show {name}" for name in "abc"], "ports": ["free"], "ranges": ["check"], "calendar": ["rooms", "show red", "show blue", "of anna"]}
+KEPT = {"solve": "no line of the solver tells its rules", "blocks": "no line of the program tells which blocks are free"}
+
+
+def compacted(work):
+    """The fewest lines of a session lead to the same state, and more lines go on from there; else the file stays."""
+    for name in ("run", "solve", "ports", "blocks", "ranges", "calendar"):
+        chance, path = random.Random(f"{SEED} {name} fewer"), os.path.join(work, f"fewer_{name}")
+        lines = [line_of(name, chance) for _ in range(200)]
+        told(name, lines, path)
+        with open(path, "rb") as file:
+            before = file.read()
+        done = subprocess.run([program(name), "--compact", "--keep", path], capture_output=True, check=False)
+        with open(path, "rb") as file:
+            after = file.read()
+        said = done.stderr.decode()
+        if name in KEPT:
+            expect(f"{name}, --compact", (done.returncode, after, said), (1, before, f"ivl_{name}: {path}: the lines stay as they are: {KEPT[name]}\n"))
+            continue
+        counts = [it.count(b"\n") - 1 for it in (after, before)]
+        expect(f"{name}, --compact", (done.returncode, said), (0, f"ivl_{name}: {path}: {counts[0]} lines in place of {counts[1]}\n"))
+        expect(f"{name}, fewer lines", counts[0] < counts[1], True)
+        more = [*LOOKS[name], *(line_of(name, chance) for _ in range(50)), *LOOKS[name]]
+        status, answers, fault = told(name, more, path)
+        expect(f"{name}, a session after it", (status, fault), (0, ""))
+        _, wanted, _ = told(name, lines + more)
+        expect(f"{name}, the answers after it", answers, wanted[len(wanted) - len(answers) :])
+    escaped = os.path.join(work, "escaped")
+    told("calendar", ["room a\tb"], escaped)
+    done = subprocess.run([program("calendar"), "--keep", escaped, "--compact"], capture_output=True, check=False)
+    expect("a name with a tab", (done.returncode, b"the lines stay as they are" in done.stderr), (1, True))
+    done = subprocess.run([program("ports"), "--keep", os.path.join(work, "nothing"), "--compact"], capture_output=True, check=False)
+    expect("no file", (done.returncode, os.path.exists(os.path.join(work, "nothing"))), (1, False))
+
+
 def kills(work):
     """Killed at random moments, a session loses no line that it answered."""
     chance, path, taken = random.Random(SEED), os.path.join(work, "killed"), 0
@@ -166,7 +203,7 @@ def main(words):
     KILLS = int(words[words.index("--kills") + 1]) if "--kills" in words else KILLS
     SEED = int(words[words.index("--seed") + 1]) if "--seed" in words else SEED
     with tempfile.TemporaryDirectory() as work:
-        for part in (restarts, faults, two_programs, no_room, kills):
+        for part in (restarts, faults, two_programs, no_room, compacted, kills):
             part(work)
         took = many(work)
     print(f"keep: 2,400 lines in sessions that go on, {KILLS} kills, and faults, as one session has them; a million kept lines read in {took:.1f} s")

@@ -12,11 +12,33 @@ import threading
 import time
 
 # What a terminal, an editor or another program may do to a line.
-SPOILED = [b"", b" ", b"\r", b"\xff", b"show \xe9", b"\t", b"frob 1 2", b"show show", b"9"]
+SPOILED = [b"", b" ", b"\r", b"\xff", b"show \xe9", b"\t", b"frob 1 2", b"show show", b"9", b"#", b" # 1", b"#x y", b"help", b"help help", b"help frob", b"help 1 2"]
+
+
+def escaped(word):
+    """A word as an answer prints it, with its control characters escaped."""
+    marks = {"\t": "\\t", "\r": "\\r"}
+    text = (marks.get(mark, f"\\u{{{ord(mark):x}}}") if ord(mark) < 32 or 127 <= ord(mark) < 160 else mark for mark in word.decode())
+    return "".join(text).encode()
+
+
+def error(*parts):
+    return b"error: " + b" ".join(parts) + b"\n"
+
+
+def form(text):
+    return error(b"write", text)
+
+
+def unknown_command(name):
+    return error(b"unknown command", escaped(name) + b"; help lists the commands")
 
 
 class Commands:
     """A model whose lines are words between spaces, a command first: `answer_command(name, words)` answers it."""
+
+    # what each command does, by its name, where the program has a `help`
+    helps = None
 
     def answer(self, line):
         try:
@@ -24,7 +46,20 @@ class Commands:
         except UnicodeDecodeError:
             return b"error: not UTF-8\n"
         words = [word for word in line.split(b" ") if word]
-        return self.answer_command(words[0], words[1:]) if words else b""
+        if not words:
+            return b""
+        if self.helps is None:
+            return self.answer_command(words[0], words[1:])
+        if words[0] == b"help":
+            return self.help(words[1:])
+        return b"" if words[0].startswith(b"#") else self.answer_command(words[0], words[1:])
+
+    def help(self, words):
+        if len(words) > 1:
+            return form(b"help or help COMMAND")
+        if words:
+            return self.helps[words[0]].encode() + b"\n" if words[0] in self.helps else unknown_command(words[0])
+        return b", ".join(name for name in self.helps if name != b"help") + b"; help COMMAND tells what one does\n"
 
 
 def in_pieces(pipe, data, dice):

@@ -71,10 +71,12 @@ def main(program):
     for words in (["--help"], ["solve", "--help"], ["ports", "--help"], ["blocks", "--help"], ["ranges", "--help"], ["calendar", "--help"]):
         status, text, told = said(words)
         expect(words, (status, told, text.startswith(b"usage: ./run"), text.count(b"\n") > 12), (0, b"", True, True))
-    for words in (["--frob"], ["frob"], ["--memory"], ["--memory", "much"], ["--memory=5X"], ["--seconds"], ["--seconds", "0"], ["--seconds=x"]):
+        # a program says nothing of the others
+        expect(words, (b"CALCULATOR" in text, b"calendar  " in text), (words[0] == "--help", words[0] == "--help"))
+    for words in (["--frob"], ["frob"], ["--memory"], ["--memory", "much"], ["--memory=5X"], ["--seconds"], ["--seconds", "0"], ["--seconds=x"], ["--compact"]):
         status, text, told = said(words)
         expect(words, (status, text, bool(told)), (2, b"", True))
-    expect("an unknown program", said(["frob"])[2].split(b";")[0], b"run: there is no program frob")
+    expect("an unknown program", said(["frob"])[2], b"run: there is no program frob; there are solve, ports, blocks, ranges and calendar, and without a name it is the calculator\n")
     expect("an argument of a program", said(["solve", "frob"])[2].split(b";")[0], b"run: ./run solve takes no argument frob")
     expect("too little memory", said(["--memory", "1"]), (2, b"", LEAD + b"run: --memory is too little for the program to start: 0 K\n"))
     expect("a pipe", said([], b"set a 1 5\nquit\nshow a"), (0, b"ok\nbad line\n[1..5]\n", LEAD))
@@ -85,8 +87,12 @@ def main(program):
     expect("no limit on time reached", said(["--seconds=60"], b"set a 1 2\nshow a\n"), (0, b"ok\n[1..2]\n", LEAD))
     status, written, told = on_a_terminal(b"set a 1 5\nfrob\nfrob\nshow a\nquit\nshow a\n")
     expect("a terminal", (status, written), (0, b"ok\nbad line\nbad line\n[1..5]\n"))
-    hint = LEAD + b"run: one line at a time; ./run --help lists them; quit ends it\n"
-    expect("a terminal", told, hint + b"run: ./run --help lists the lines that are understood\n")
+    if WORDS:
+        # what Cargo built asks for the lines itself: tests/programs/terminal.py
+        expect("a terminal", (told.startswith(LEAD + b"ivl_run: one line at a time; "), told.count(b"sets> ")), (True, 5))
+    else:
+        hint = b"run: one line at a time; ./run --help lists them; quit ends it\n"
+        expect("a terminal", told, hint + b"run: ./run --help lists the lines that are understood\n")
     print("start: as it should be")
 
 

@@ -30,7 +30,7 @@ SUMS = [
     ("solve 1", "adult 15 child 8 pair 23 family 31\nmore possible"),
     ("limit 1", "ok"),
     ("solve", "unfinished"),
-    ("count", "count 0\nunfinished"),
+    ("count", "count at least 0\nunfinished"),
     ("limit 1000000", "ok"),
     ("solve 2", "adult 15 child 8 pair 23 family 31\nadult 12 child 9 pair 21 family 30\nok"),
     ("min adult", "adult 12 child 9 pair 21 family 30\nok"),
@@ -79,6 +79,8 @@ REFUSED = [
     *[(line, FORMS) for line in ("adult <=", "adult +", "adult + 3", "adult + 3 <=", "adult <= child 3", "adult + 3 <= child 4", "adult = = = =")],
     *[("adult + 3 < child", FORMS), ("adult < child", "error: unknown command adult"), ("adult 3 + <= child", "error: unknown command adult")],
     *[("sum + 3", "error: write sum x y z"), ("count <=", "error: write count"), ("cut = 1", "error: unknown variable cut")],
+    *[("var 3 1 9", "error: 3 is a number"), ("var -4", "error: -4 is a number"), ("var aunt 9 1", "error: 9 is above 1")],
+    *[("var aunt 1 9 5 4 3 2", "error: 5 is above 4"), ("cut adult 15 18 9 8", "error: 9 is above 8"), ("show aunt", "error: unknown variable aunt")],
     *[("different", "error: write different x y .."), ("different adult", "error: write different x y ..")],
     *[("different adult uncle aunt", "error: unknown variable uncle"), ("different pair adult child adult pair", "error: pair is named twice")],
 ]

@@ -31,10 +31,15 @@ from array import array as Numbers
 from typing import Any, Iterable, Iterator, Literal, Sequence, SupportsIndex, Union
 
 from ._calls import HANDLE_SHAPES, NUMBER, SHAPES, Call, Calls
+from ._forms import json_of, pairs_of_json, pairs_of_text, text_of
+from ._given import interruptible, whole
 from ._runs import Runs, listed
 
 __version__ = "2.0.0"
-__all__ = ["DateSet", "IntervalMap", "IntervalSet", "MutableIntervalSet", "OutOfMemory", "OutOfRange", "ProductOutOfRange", "Runs", "SumOutOfRange"]
+__all__ = [
+    "Best", "Count", "DateSet", "End", "IntervalMap", "IntervalSet", "Model", "MutableIntervalSet", "OutOfMemory", "OutOfRange", "ProductOutOfRange",
+    "Runs", "SearchStopped", "Solution", "Solutions", "SumOutOfRange", "Variable",
+]
 
 
 def _optional(name: str) -> Any:
@@ -140,13 +145,25 @@ class _Bounds(Calls):
             raise self.outside(self.limits[0] if self.is_signed else self.limits[1])
         if told == -3:
             raise ProductOutOfRange("a product is outside the range of %s, from %d to %d" % (self.name, *self.range))
-        if told < 0:
+        if told == -5:
+            raise SumOutOfRange("a sum or a distance is outside the range of %s, from %d to %d" % (self.name, *self.range))
+        if told == -2:
             raise OutOfMemory("an allocation failed")
+        if told < 0:
+            raise RuntimeError("a fault of the library, code %d" % told)
         return told
 
 
 _library = _load()
 _types = {"i64": _Bounds(_library, "i64", ctypes.c_int64), "u64": _Bounds(_library, "u64", ctypes.c_uint64)}
+# calls with as many pairs of runs as this may take a tenth of a second and more
+_LONG = 1_000_000
+
+
+def _type_of(bounds: Bounds) -> _Bounds:
+    if not isinstance(bounds, str) or bounds not in _types:
+        raise ValueError("bounds is 'i64' or 'u64', not %r" % (bounds,))
+    return _types[bounds]
 
 
 class IntervalSet(collections.abc.Set[int]):
@@ -184,9 +201,7 @@ class IntervalSet(collections.abc.Set[int]):
 
     # a set is made here and not in __init__, which could be called again and would change it
     def __new__(cls, items: Iterable[Item] = (), bounds: Bounds = "i64") -> IntervalSet:
-        if not isinstance(bounds, str) or bounds not in _types:
-            raise ValueError("bounds is 'i64' or 'u64', not %r" % (bounds,))
-        kind = _types[bounds]
+        kind = _type_of(bounds)
         held, address, count = _pairs(kind, items)
         made = cls._of(kind, kind.normalize, address, count, room=count)
         del held  # the list stays until the call has read it
@@ -213,7 +228,41 @@ class IntervalSet(collections.abc.Set[int]):
         >>> IntervalSet.of(1, 5)
         IntervalSet([(1, 5)])
         """
-        return cls([(lower, upper)], bounds=bounds)
+        return cls([(whole(lower, "lower"), whole(upper, "upper"))], bounds=bounds)
+
+    @classmethod
+    def from_text(cls, text: str, bounds: Bounds = "i64") -> IntervalSet:
+        """Returns the set of a text as `to_text` makes it; its runs may come in any order.
+
+        >>> IntervalSet.from_text("{[1..2][5..5]}"), IntervalSet.from_text("[1..5]"), IntervalSet.from_text("{}")
+        (IntervalSet([(1, 2), (5, 5)]), IntervalSet([(1, 5)]), IntervalSet([]))
+        """
+        return cls(pairs_of_text(text), bounds=bounds)
+
+    def to_text(self) -> str:
+        """Returns the runs as a text, the same as from Rust and C++.
+
+        >>> IntervalSet([(1, 2), 5]).to_text(), IntervalSet([(1, 5)]).to_text(), IntervalSet().to_text()
+        ('{[1..2][5..5]}', '[1..5]', '{}')
+        """
+        return text_of(self.runs())
+
+    @classmethod
+    def from_json(cls, text: str | bytes, bounds: Bounds = "i64") -> IntervalSet:
+        """Returns the set of JSON as `to_json` makes it; `null` has no members, and a run that crosses is a `ValueError`.
+
+        >>> IntervalSet.from_json("[[1, 2], [5, 5]]")
+        IntervalSet([(1, 2), (5, 5)])
+        """
+        return cls(pairs_of_json(text), bounds=bounds)
+
+    def to_json(self) -> str:
+        """Returns the runs as JSON, the same as from Rust.
+
+        >>> IntervalSet([(1, 2), 5]).to_json(), IntervalSet().to_json()
+        ('[[1,2],[5,5]]', '[]')
+        """
+        return json_of(self.runs())
 
     @classmethod
     def union_of(cls, sets: Iterable[Iterable[Item]], bounds: Bounds = "i64") -> IntervalSet:
@@ -236,6 +285,12 @@ class IntervalSet(collections.abc.Set[int]):
     def _with(self, call: Call, other: IntervalSet) -> IntervalSet:
         lists = self._at, self._count, other._at, other._count
         return self._of(self._type, call, *lists, room=self._count + other._count)
+
+    def _computed(self, call: Call, other: IntervalSet) -> IntervalSet:
+        """What is computed of each pair of runs, which may take long: Ctrl-C does not wait for it."""
+        if self._count * other._count < _LONG:
+            return self._with(call, other)
+        return interruptible(lambda: self._with(call, other))
 
     def _merged(self, call: Call, others: Iterable[Iterable[Item]]) -> IntervalSet:
         made = self
@@ -329,7 +384,7 @@ class IntervalSet(collections.abc.Set[int]):
         taken = self._taken(other)
         if self and taken and not clipped:
             self._type.fitting("sum", self.min() + taken.min(), self.max() + taken.max())
-        return self._with(self._type.sums_within, taken)
+        return self._computed(self._type.sums_within, taken)
 
     def differences(self, other: Iterable[Item], *, clipped: bool = False) -> IntervalSet:
         """Returns the differences of a member of this set and one of the other.
@@ -345,7 +400,7 @@ class IntervalSet(collections.abc.Set[int]):
         taken = self._taken(other)
         if self and taken and not clipped:
             self._type.fitting("difference", self.min() - taken.max(), self.max() - taken.min())
-        return self._with(self._type.differences_within, taken)
+        return self._computed(self._type.differences_within, taken)
 
     def products(self, other: Iterable[Item]) -> IntervalSet:
         """Returns, for each pair of runs, the numbers from their least to their greatest product.
@@ -356,7 +411,7 @@ class IntervalSet(collections.abc.Set[int]):
         Traceback (most recent call last):
         intervallum.ProductOutOfRange: a product is outside the range of u64, from 0 to 18446744073709551614
         """
-        return self._with(self._type.products, self._taken(other))
+        return self._computed(self._type.products, self._taken(other))
 
     def __invert__(self) -> IntervalSet:
         """Returns the complement within the range."""
@@ -449,7 +504,7 @@ class IntervalSet(collections.abc.Set[int]):
         >>> IntervalSet([(1, 2), (5, 6)]).next_from(3), IntervalSet([(1, 2)]).next_from(3)
         (5, None)
         """
-        number = operator.index(value)
+        number = whole(value, "value")
         low, high = self._type.limits
         if number > high:
             return None
@@ -464,7 +519,7 @@ class IntervalSet(collections.abc.Set[int]):
         >>> IntervalSet([(1, 2), (5, 6)]).previous_to(4), IntervalSet([(1, 2)]).previous_to(0)
         (2, None)
         """
-        number = operator.index(value)
+        number = whole(value, "value")
         low, high = self._type.limits
         if number < low:
             return None
@@ -479,7 +534,7 @@ class IntervalSet(collections.abc.Set[int]):
         >>> IntervalSet([(1, 2), (5, 6)]).run_at(6), IntervalSet([(1, 2)]).run_at(3)
         ((5, 6), None)
         """
-        number = operator.index(value)
+        number = whole(value, "value")
         found = self._type.run()
         if not self._type.holds(number) or not self._type.run_at_sorted(self._at, self._count, number, ctypes.addressof(found)):
             return None
@@ -498,7 +553,7 @@ class IntervalSet(collections.abc.Set[int]):
         >>> IntervalSet([(1, 2), (5, 6)]).rank(6), IntervalSet([(1, 2)]).rank(0)
         (3, 0)
         """
-        number = operator.index(value)
+        number = whole(value, "value")
         lowers, below = self._ranks()
         at = bisect.bisect_right(lowers, number)
         if not at:
@@ -512,7 +567,7 @@ class IntervalSet(collections.abc.Set[int]):
         >>> IntervalSet([(1, 2), (5, 6)]).nth(2), IntervalSet([(1, 2)]).nth(2)
         (5, None)
         """
-        left = operator.index(index)
+        left = whole(index, "index")
         lowers, below = self._ranks()
         if not 0 <= left < below[-1]:
             return None
@@ -525,7 +580,7 @@ class IntervalSet(collections.abc.Set[int]):
         >>> IntervalSet([(1, 2), (5, 9)]).first_fit(3), IntervalSet([(1, 2)]).first_fit(3)
         ((5, 7), None)
         """
-        number = operator.index(count)
+        number = whole(count, "count")
         if not 0 < number < 2**64:
             return None
         found = self._type.run()
@@ -538,7 +593,7 @@ class IntervalSet(collections.abc.Set[int]):
         >>> IntervalSet([(1, 5), (7, 9), (20, 22)]).best_fit(2)
         (7, 8)
         """
-        number = operator.index(count)
+        number = whole(count, "count")
         fitting = ((upper - lower, lower) for lower, upper in self.runs() if 0 < number <= upper - lower + 1)
         found = min(fitting, default=None)
         return None if found is None else (found[1], found[1] + number - 1)
@@ -549,7 +604,7 @@ class IntervalSet(collections.abc.Set[int]):
         >>> IntervalSet([(1, 5), (7, 9)]).first_fit_from(4, 2), IntervalSet([(1, 5), (7, 9)]).first_fit_from(5, 2)
         ((4, 5), (7, 8))
         """
-        least, number = operator.index(value), operator.index(count)
+        least, number = whole(value, "value"), whole(count, "count")
         runs = ((max(lower, least), upper) for lower, upper in self.runs_within(least, self._type.range[1]))
         return next(((lower, lower + number - 1) for lower, upper in runs if 0 < number <= upper - lower + 1), None)
 
@@ -559,7 +614,7 @@ class IntervalSet(collections.abc.Set[int]):
         >>> IntervalSet([(1, 2), (5, 6), (9, 9)]).runs_within(2, 5)
         Runs([(1, 2), (5, 6)])
         """
-        low, high = operator.index(lower), operator.index(upper)
+        low, high = whole(lower, "lower"), whole(upper, "upper")
         places = range(self._count)
         first = bisect.bisect_left(places, low, key=lambda at: self._list[2 * at + 1])
         past = max(bisect.bisect_right(places, high, key=lambda at: self._list[2 * at]), first)
@@ -571,7 +626,7 @@ class IntervalSet(collections.abc.Set[int]):
         >>> IntervalSet([(1, 2), (5, 6)]).gaps_within(0, 9)
         IntervalSet([(0, 0), (3, 4), (7, 9)])
         """
-        low, high = max(operator.index(lower), self._type.range[0]), min(operator.index(upper), self._type.range[1])
+        low, high = max(whole(lower, "lower"), self._type.range[0]), min(whole(upper, "upper"), self._type.range[1])
         return IntervalSet([(low, high)] if low <= high else (), bounds=self._type.name) - self
 
     def min(self) -> int:
@@ -714,6 +769,11 @@ def _pairs(bounds: _Bounds, items: Iterable[Item]) -> tuple[Any, int, int]:
         flat = Numbers(bounds.code, itertools.chain.from_iterable(pairs))
     except OverflowError:
         raise bounds.outside(next(n for pair in pairs for n in map(operator.index, pair) if not bounds.holds(n))) from None
+    except TypeError:
+        for pair in pairs:
+            for bound in pair:
+                whole(bound, "a bound")
+        raise
     for pair, bounds_before in lists:
         _is_unchanged(pair, bounds_before)
     return flat, flat.buffer_info()[0], len(pairs)
@@ -737,14 +797,14 @@ def _pairs_of_item(item: Any) -> Iterable[tuple[int, int]]:
         if len(item) != 2:
             raise TypeError("a pair has two bounds: %r" % (item,))
         lower, upper = item
-        pair = operator.index(lower), operator.index(upper)
+        pair = whole(lower, "a bound"), whole(upper, "a bound")
         _is_unchanged(item, (lower, upper))
         return [pair]
     if isinstance(item, collections.abc.Set):
-        return [(number, number) for number in map(operator.index, item)]
+        return [(number, number) for number in (whole(one, "a member") for one in item)]
     if numpy is not None and isinstance(item, numpy.ndarray) and item.shape == (2,):
         return [(operator.index(item[0]), operator.index(item[1]))]
-    number = operator.index(item)
+    number = whole(item, "an item")
     return [(number, number)]
 
 
@@ -772,4 +832,5 @@ def _pairs_of_array(bounds: _Bounds, items: Any) -> tuple[Any, int, int]:
 
 # they are made of what is above
 from ._dates import DateSet  # noqa: E402
+from ._model import Best, Count, End, Model, SearchStopped, Solution, Solutions, Variable  # noqa: E402
 from ._mutable import IntervalMap, MutableIntervalSet  # noqa: E402

@@ -8,6 +8,7 @@ import operator
 from typing import Any, Iterable, Iterator, SupportsIndex, Union
 
 from . import IntervalSet
+from ._given import whole
 
 Date = datetime.date
 # a date, both dates of a pair, or a set of dates
@@ -109,11 +110,11 @@ class DateSet(collections.abc.Set[Date]):
 
     def first_fit(self, days: SupportsIndex) -> tuple[Date, Date] | None:
         """Returns the first so many days in a row, as their first and last date, or None."""
-        return _run(self._held.first_fit(days))
+        return _run(self._held.first_fit(whole(days, "days")))
 
     def first_fit_from(self, date: Date, days: SupportsIndex) -> tuple[Date, Date] | None:
         """Returns the first so many days in a row from a date on, or None."""
-        return _run(self._held.first_fit_from(_day(date), days))
+        return _run(self._held.first_fit_from(_day(date), whole(days, "days")))
 
     def gaps_within(self, first: Date, last: Date) -> DateSet:
         """Returns the dates from the first to the last that are no members."""

@@ -5,86 +5,16 @@ from __future__ import annotations
 import collections.abc
 import ctypes
 import itertools
+import json
 import operator
-import weakref
 from typing import Any, Generic, Iterable, Iterator, SupportsIndex, TypeVar
 
-from . import Bounds, IntervalSet, Item, Runs, _as_whole, _Bounds, _types
+from . import Bounds, IntervalSet, Item, Runs, _as_whole
+from ._forms import run_of_json
+from ._given import whole
+from ._handles import Handle, near, new, window, within
 
 V = TypeVar("V")
-
-
-class _Handle:
-    """A handle of the library, which ends with the object, and its calls. A call is given the object, so that it lives as long."""
-
-    __slots__ = ("type", "kind", "_as_parameter_", "_ends", "__weakref__")
-
-    def __init__(self, bounds: _Bounds, kind: str, at: int) -> None:
-        self.type, self.kind, self._as_parameter_ = bounds, kind, at
-        assert bounds.handles is not None
-        self._ends = weakref.finalize(self, bounds.handles[kind + "_free"], at)
-
-    def call(self, name: str, *given: Any) -> int:
-        assert self.type.handles is not None
-        return _told(self.type, self.type.handles["%s_%s" % (self.kind, name)](self, *given))
-
-    def number(self, name: str, *given: Any) -> int | None:
-        found = self.type.number()
-        return found.value if self.call(name, *given, ctypes.addressof(found)) else None
-
-    def run(self, name: str, *given: Any) -> tuple[int, int] | None:
-        found = self.type.run()
-        return (found.lower, found.upper) if self.call(name, *given, ctypes.addressof(found)) else None
-
-    def size(self, name: str, *given: Any) -> int:
-        found = ctypes.c_uint64()
-        self.call(name, *given, ctypes.addressof(found))
-        return found.value
-
-    def runs(self, out: int, room: int) -> int:
-        return self.call("runs", out, room)
-
-    def made(self, name: str, *given: Any, kind: str = "set") -> _Handle:
-        found = ctypes.c_void_p()
-        self.call(name, *given, ctypes.addressof(found))
-        return _Handle(self.type, kind, found.value or 0)
-
-
-def _told(bounds: _Bounds, told: int) -> int:
-    if told in (-6, -7):
-        raise RuntimeError("a fault of the library, code %d" % told)
-    return bounds.checked(told)
-
-
-def _new(bounds: Bounds, kind: str) -> _Handle:
-    if not isinstance(bounds, str) or bounds not in _types:
-        raise ValueError("bounds is 'i64' or 'u64', not %r" % (bounds,))
-    made, found = _types[bounds], ctypes.c_void_p()
-    if made.handles is None:
-        raise ImportError("the library has no sets and maps that change: the one that Cargo builds has them")
-    _told(made, made.handles[kind + "_new"](ctypes.addressof(found)))
-    return _Handle(made, kind, found.value or 0)
-
-
-def _within(bounds: _Bounds, value: SupportsIndex) -> int:
-    """A number that has to be in the range."""
-    number = operator.index(value)
-    low, high = bounds.range
-    if not low <= number <= high:
-        raise bounds.outside(number)
-    return number
-
-
-def _near(bounds: _Bounds, value: SupportsIndex) -> int:
-    """A number, or the end of the type that is next to it."""
-    low, high = bounds.limits
-    return min(max(operator.index(value), low), high)
-
-
-def _window(bounds: _Bounds, lower: SupportsIndex, upper: SupportsIndex) -> tuple[int, int]:
-    """The part of an interval that is in the range; that of none is crossed."""
-    low, high = max(operator.index(lower), bounds.range[0]), min(operator.index(upper), bounds.range[1])
-    return (low, high) if low <= high else (1, 0)
 
 
 class MutableIntervalSet(collections.abc.MutableSet[int]):
@@ -103,12 +33,12 @@ class MutableIntervalSet(collections.abc.MutableSet[int]):
     __hash__ = None  # type: ignore[assignment]
 
     def __init__(self, items: Iterable[Item] = (), bounds: Bounds = "i64") -> None:
-        self._set = _new(bounds, "set")
+        self._set = new(bounds, "set")
         if items != ():
             self.update(items)
 
     @classmethod
-    def _of(cls, handle: _Handle) -> MutableIntervalSet:
+    def _of(cls, handle: Handle) -> MutableIntervalSet:
         made = cls.__new__(cls)
         made._set = handle
         return made
@@ -122,35 +52,35 @@ class MutableIntervalSet(collections.abc.MutableSet[int]):
             return other.frozen()
         return other if isinstance(other, IntervalSet) and other._type is self._set.type else IntervalSet(other, bounds=self.bounds)
 
-    def _handle_of(self, other: Iterable[Item]) -> _Handle:
+    def _handle_of(self, other: Iterable[Item]) -> Handle:
         """The handle of a set of the same bounds, or of what a method takes."""
         if isinstance(other, MutableIntervalSet) and other._set.type is self._set.type:
             return other._set
         taken, found = self._taken(other), ctypes.c_void_p()
         handles = self._set.type.handles
         assert handles is not None
-        _told(self._set.type, handles["set_of"](taken._at, taken._count, ctypes.addressof(found)))
-        return _Handle(self._set.type, "set", found.value or 0)
+        self._set.type.checked(handles["set_of"](taken._at, taken._count, ctypes.addressof(found)))
+        return Handle(self._set.type, "set", found.value or 0)
 
     # ---- edits
 
     def add(self, value: SupportsIndex) -> None:
         """Adds a number."""
-        self._set.call("insert", _within(self._set.type, value))
+        self._set.call("insert", within(self._set.type, value, "value"))
 
     def discard(self, value: SupportsIndex) -> None:
         """Removes a number, if it is a member."""
-        number = operator.index(value)
+        number = whole(value, "value")
         if self._set.type.holds(number):
             self._set.call("remove", number)
 
     def add_run(self, lower: SupportsIndex, upper: SupportsIndex) -> None:
         """Adds the numbers from `lower` to `upper`, both included."""
-        self._set.call("insert_run", _within(self._set.type, lower), _within(self._set.type, upper))
+        self._set.call("insert_run", within(self._set.type, lower, "lower"), within(self._set.type, upper, "upper"))
 
     def discard_run(self, lower: SupportsIndex, upper: SupportsIndex) -> None:
         """Removes the numbers from `lower` to `upper`, both included."""
-        self._set.call("remove_run", *_window(self._set.type, lower, upper))
+        self._set.call("remove_run", *window(self._set.type, lower, upper))
 
     def update(self, *others: Iterable[Item]) -> None:
         """Adds numbers, ranges, pairs and sets."""
@@ -211,7 +141,7 @@ class MutableIntervalSet(collections.abc.MutableSet[int]):
         return self._fit("take_first_fit", count)
 
     def _fit(self, name: str, count: SupportsIndex, *given: int) -> tuple[int, int] | None:
-        number = operator.index(count)
+        number = whole(count, "count")
         return self._set.run(name, *given, number) if 0 < number < 2**64 else None
 
     # ---- reads
@@ -264,27 +194,27 @@ class MutableIntervalSet(collections.abc.MutableSet[int]):
 
     def next_from(self, value: SupportsIndex) -> int | None:
         """Returns the least member that is at least the value, or None."""
-        number = operator.index(value)
-        return None if number > self._set.type.limits[1] else self._set.number("next_from", _near(self._set.type, number))
+        number = whole(value, "value")
+        return None if number > self._set.type.limits[1] else self._set.number("next_from", near(self._set.type, number))
 
     def previous_to(self, value: SupportsIndex) -> int | None:
         """Returns the greatest member that is at most the value, or None."""
-        number = operator.index(value)
-        return None if number < self._set.type.limits[0] else self._set.number("previous_to", _near(self._set.type, number))
+        number = whole(value, "value")
+        return None if number < self._set.type.limits[0] else self._set.number("previous_to", near(self._set.type, number))
 
     def run_at(self, value: SupportsIndex) -> tuple[int, int] | None:
         """Returns the run that holds the value as a pair, or None."""
-        number = operator.index(value)
+        number = whole(value, "value")
         return self._set.run("run_at", number) if self._set.type.holds(number) else None
 
     def rank(self, value: SupportsIndex) -> int:
         """Returns the number of members below the value."""
-        number = operator.index(value)
-        return self.size if number > self._set.type.limits[1] else self._set.size("rank", _near(self._set.type, number))
+        number = whole(value, "value")
+        return self.size if number > self._set.type.limits[1] else self._set.size("rank", near(self._set.type, number))
 
     def nth(self, index: SupportsIndex) -> int | None:
         """Returns the member with exactly `index` members below it, or None."""
-        number = operator.index(index)
+        number = whole(index, "index")
         return self._set.number("nth", number) if 0 <= number < 2**64 else None
 
     def first_fit(self, count: SupportsIndex) -> tuple[int, int] | None:
@@ -293,7 +223,7 @@ class MutableIntervalSet(collections.abc.MutableSet[int]):
 
     def first_fit_from(self, value: SupportsIndex, count: SupportsIndex) -> tuple[int, int] | None:
         """Returns the lowest `count` consecutive members from the value on as a pair, or None."""
-        return self._fit("first_fit_from", count, _near(self._set.type, value))
+        return self._fit("first_fit_from", count, near(self._set.type, whole(value, "value")))
 
     def best_fit(self, count: SupportsIndex) -> tuple[int, int] | None:
         """Returns `count` consecutive members at the start of the shortest run that is long enough, or None."""
@@ -357,7 +287,7 @@ class MutableIntervalSet(collections.abc.MutableSet[int]):
 
     def gaps_within(self, lower: SupportsIndex, upper: SupportsIndex) -> IntervalSet:
         """Returns the numbers from `lower` to `upper` that are no members."""
-        return self._of(self._set.made("gaps_within", *_window(self._set.type, lower, upper))).frozen()
+        return self._of(self._set.made("gaps_within", *window(self._set.type, lower, upper))).frozen()
 
     def copy(self) -> MutableIntervalSet:
         """Returns a set of its own with the same members."""
@@ -367,6 +297,24 @@ class MutableIntervalSet(collections.abc.MutableSet[int]):
 
     def __deepcopy__(self, memo: Any) -> MutableIntervalSet:
         return self.copy()
+
+    @classmethod
+    def from_text(cls, text: str, bounds: Bounds = "i64") -> MutableIntervalSet:
+        """Returns the set of a text, as `IntervalSet.from_text`."""
+        return cls(IntervalSet.from_text(text, bounds=bounds), bounds=bounds)
+
+    def to_text(self) -> str:
+        """Returns the runs as a text, as `IntervalSet.to_text`."""
+        return self.frozen().to_text()
+
+    @classmethod
+    def from_json(cls, text: str | bytes, bounds: Bounds = "i64") -> MutableIntervalSet:
+        """Returns the set of JSON, as `IntervalSet.from_json`."""
+        return cls(IntervalSet.from_json(text, bounds=bounds), bounds=bounds)
+
+    def to_json(self) -> str:
+        """Returns the runs as JSON, as `IntervalSet.to_json`."""
+        return self.frozen().to_json()
 
     def __reduce__(self) -> tuple[Any, ...]:
         return type(self), (list(self.runs()), self.bounds)
@@ -396,7 +344,7 @@ class IntervalMap(Generic[V]):
     __hash__ = None  # type: ignore[assignment]
 
     def __init__(self, entries: Iterable[tuple[tuple[SupportsIndex, SupportsIndex], V]] = (), bounds: Bounds = "i64") -> None:
-        self._map = _new(bounds, "map")
+        self._map = new(bounds, "map")
         # the library has a number for each value: by the value, if it has a hash, and the values by number
         self._numbers: dict[V, int] = {}
         self._values: list[Any] = []
@@ -461,17 +409,17 @@ class IntervalMap(Generic[V]):
 
     def set(self, lower: SupportsIndex, upper: SupportsIndex, value: V) -> None:
         """Gives the numbers from `lower` to `upper`, both included, a value."""
-        low, high = _within(self._map.type, lower), _within(self._map.type, upper)
+        low, high = within(self._map.type, lower, "lower"), within(self._map.type, upper, "upper")
         self._map.call("insert", low, high, self._number(value))
 
     def set_if_free(self, lower: SupportsIndex, upper: SupportsIndex, value: V) -> bool:
         """Does this if none of the numbers has a value. Returns whether it did."""
-        low, high = _within(self._map.type, lower), _within(self._map.type, upper)
+        low, high = within(self._map.type, lower, "lower"), within(self._map.type, upper, "upper")
         return self._map.call("insert_if_free", low, high, self._number(value)) == 1
 
     def remove(self, lower: SupportsIndex, upper: SupportsIndex) -> None:
         """Takes the values of the numbers from `lower` to `upper`, both included."""
-        self._map.call("remove", *_window(self._map.type, lower, upper))
+        self._map.call("remove", *window(self._map.type, lower, upper))
 
     def clear(self) -> None:
         """Takes all values."""
@@ -487,13 +435,13 @@ class IntervalMap(Generic[V]):
 
     def _ends(self, key: SupportsIndex | slice) -> tuple[int, int]:
         if not isinstance(key, slice):
-            number = operator.index(key)
+            number = whole(key, "a number")
             return number, number
         if key.step is not None:
             raise ValueError("a slice of numbers has no step")
         low, high = self._map.type.range
-        lower = low if key.start is None else operator.index(key.start)
-        return lower, high if key.stop is None else operator.index(key.stop) - 1
+        lower = low if key.start is None else whole(key.start, "the start of a slice")
+        return lower, high if key.stop is None else whole(key.stop, "the end of a slice") - 1
 
     # ---- reads
 
@@ -509,27 +457,27 @@ class IntervalMap(Generic[V]):
         return default if entry is None else entry[1]
 
     def __contains__(self, number: object) -> bool:
-        whole = number if isinstance(number, int) else _as_whole(number)
-        return whole is not None and self._map.type.holds(whole) and self._map.call("contains", whole) == 1
+        at = number if isinstance(number, int) else _as_whole(number)
+        return at is not None and self._map.type.holds(at) and self._map.call("contains", at) == 1
 
     def entry_at(self, number: SupportsIndex) -> tuple[tuple[int, int], V] | None:
         """Returns the run of a number and its value, or None."""
-        whole = operator.index(number)
-        return self._entry("entry_at", whole) if self._map.type.holds(whole) else None
+        at = whole(number, "number")
+        return self._entry("entry_at", at) if self._map.type.holds(at) else None
 
     def next_from(self, number: SupportsIndex) -> tuple[tuple[int, int], V] | None:
         """Returns the first entry that ends at the number or above, or None."""
-        whole = operator.index(number)
-        return None if whole > self._map.type.limits[1] else self._entry("next_from", _near(self._map.type, whole))
+        at = whole(number, "number")
+        return None if at > self._map.type.limits[1] else self._entry("next_from", near(self._map.type, at))
 
     def previous_to(self, number: SupportsIndex) -> tuple[tuple[int, int], V] | None:
         """Returns the last entry that begins at the number or below, or None."""
-        whole = operator.index(number)
-        return None if whole < self._map.type.limits[0] else self._entry("previous_to", _near(self._map.type, whole))
+        at = whole(number, "number")
+        return None if at < self._map.type.limits[0] else self._entry("previous_to", near(self._map.type, at))
 
     def overlapping(self, lower: SupportsIndex, upper: SupportsIndex) -> Iterator[tuple[tuple[int, int], V]]:
         """Yields the entries that have a number from `lower` to `upper`."""
-        low, high = _window(self._map.type, lower, upper)
+        low, high = window(self._map.type, lower, upper)
         if low <= high:
             yield from ((run, self._values[number]) for run, number in self._numbered(low, high))
 
@@ -566,12 +514,12 @@ class IntervalMap(Generic[V]):
 
     def gaps_within(self, lower: SupportsIndex, upper: SupportsIndex) -> IntervalSet:
         """Returns the numbers from `lower` to `upper` that have no value."""
-        return MutableIntervalSet._of(self._map.made("gaps_within", *_window(self._map.type, lower, upper))).frozen()
+        return MutableIntervalSet._of(self._map.made("gaps_within", *window(self._map.type, lower, upper))).frozen()
 
     def first_fit(self, lower: SupportsIndex, upper: SupportsIndex, count: SupportsIndex) -> tuple[int, int] | None:
         """Returns the lowest `count` consecutive numbers from `lower` to `upper` that have no value as a pair, or None."""
-        number = operator.index(count)
-        return self._map.run("first_fit", *_window(self._map.type, lower, upper), number) if 0 < number < 2**64 else None
+        number = whole(count, "count")
+        return self._map.run("first_fit", *window(self._map.type, lower, upper), number) if 0 < number < 2**64 else None
 
     def __eq__(self, other: object) -> bool:
         if not isinstance(other, IntervalMap):
@@ -586,6 +534,29 @@ class IntervalMap(Generic[V]):
         return made
 
     __copy__ = copy
+
+    @classmethod
+    def from_json(cls, text: str | bytes, bounds: Bounds = "i64") -> IntervalMap[Any]:
+        """Returns the map of JSON as `to_json` makes it.
+
+        >>> IntervalMap.from_json('[[[8,11],"anna"],[[12,13],null]]')
+        IntervalMap([((8, 11), 'anna'), ((12, 13), None)])
+        """
+        made: IntervalMap[Any] = cls(bounds=bounds)
+        found = json.loads(text)
+        if not (isinstance(found, list) and all(isinstance(entry, list) and len(entry) == 2 for entry in found)):
+            raise ValueError('JSON of a map is a list of runs and values, as in [[[1,2],"anna"]]')
+        for run, value in found:
+            made.set(*run_of_json(run), value)
+        return made
+
+    def to_json(self) -> str:
+        """Returns the entries as JSON, the same as from Rust, if the values have such a form.
+
+        >>> IntervalMap([((8, 11), "anna")]).to_json()
+        '[[[8,11],"anna"]]'
+        """
+        return json.dumps(list(self), separators=(",", ":"))
 
     def __reduce__(self) -> tuple[Any, ...]:
         return type(self), (list(self), self.bounds)

@@ -5,11 +5,13 @@ mod conversions;
 mod edits;
 mod iterators;
 mod making;
+mod operators;
 mod reads;
 #[cfg(feature = "serde")]
 mod serde;
+mod sweep;
 
-pub use iterators::{IntoIter, Iter, Values};
+pub use iterators::{IntoIter, Iter, IterWithin, Values};
 
 use crate::proved::width::Width;
 
@@ -21,7 +23,11 @@ use crate::proved::width::Width;
 ///
 /// `V` is any type with `Clone` and `Eq`, which keep the laws that Rust's std asks of them: `==` is an equivalence, and a copy
 /// equals what it was copied from. The proofs take the laws for granted; a type that breaks them may get wrong answers, but never undefined
-/// behaviour. A value is copied where an edit splits its entry, by [`update`](Self::update), and by calls that return another map.
+/// behaviour. A value is copied where an edit splits its entry, by [`update`](Self::update), by calls that return another map, and by
+/// edits of many entries at once, which may make the map anew.
+///
+/// Equal values that touch are one entry, whoever wrote them: where two that are equal have to stay apart, put into the value what tells them
+/// apart, as an id.
 ///
 /// ```
 /// use intervallum::IntervalMap;

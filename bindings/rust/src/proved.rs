@@ -13,6 +13,7 @@
 //! | [`ivl_paged`] | sets for many runs that change: their runs stand in pages |
 //! | [`ivl_map`] | maps from integers to values, stored as maximal runs of equal values |
 //! | [`ivl_within`] | sums and differences that are cut to a window |
+//! | [`ivl_linear`] | linear rules of any length, `3 * x - 2 * y + z <= 7` among them, and what narrowing by one leaves |
 //! | [`ivl_store`] | domains of variables, narrowed by constraints `x + y = z` |
 //! | [`ivl_rules`] | rules of two or three variables, `x + 3 <= y` or `x != y` among them, and what narrowing by one leaves |
 //! | [`ivl_network`] | domains and such rules that are added one by one, narrowed within a budget, and taken back by marks |
@@ -55,6 +56,7 @@ pub mod ivl_json;
 #[allow(unused_imports)]
 #[cfg(target_pointer_width = "64")]
 pub mod ivl_buffers;
+pub mod ivl_linear;
 pub mod ivl_map;
 // the source imports a trait for whose methods Rust does not ask
 #[allow(unused_imports)]
@@ -80,6 +82,9 @@ pub mod examples {
     pub use super::ivl_expr::{EvalFault, Expr, eval};
     #[cfg(feature = "json")]
     pub use super::ivl_json::{ItemFault, JsonFault, JsonForm};
+    pub use super::ivl_linear::linear::narrowing::{rest_of_teller, rest_of_term};
+    pub use super::ivl_linear::linear::sums::{SumEnds, ends_of};
+    pub use super::ivl_linear::linear::{Relation, Term, first_unknown, is_light, is_over_different};
     pub use super::ivl_map::{IntervalMap, MapValue};
     pub use super::ivl_merges::merges;
     pub use super::ivl_merges::sink::Places;

@@ -239,6 +239,30 @@ fn debug_builds_test_the_arithmetic_of_bounds_and_sizes() {
 
 #[test]
 #[cfg(debug_assertions)]
+fn debug_builds_test_the_conditions_of_linear_rules() {
+    use intervallum::proved::ivl_linear::linear::losses::{lone_loss, takes_nothing};
+    use intervallum::proved::ivl_linear::linear::narrowing::{narrow, rest_of_teller, rest_of_term};
+    use intervallum::proved::ivl_linear::linear::sums::ends_of;
+    use intervallum::proved::ivl_linear::linear::{Relation, Term};
+    use intervallum::proved::prelude::*;
+    use intervallum::proved::{Global, IntervalSet};
+
+    let domains = || [IntervalSet::<u8>::new(Global, 1, 2).unwrap()];
+    let known = Term { coefficient: 1, variable: 0 };
+    let unknown = [known, Term { coefficient: 1, variable: 1 }];
+    let at_most = Relation::AtMost(3);
+    panics! {
+        narrow(&mut domains(), &unknown, at_most) => "the condition of `narrow` is broken: super::is_light(terms) && super::is_over_different(terms, relation) && super::first_unknown(terms, relation, domains.len()).is_none()";
+        takes_nothing(&domains(), &[known, known], at_most) => "the condition of `takes_nothing` is broken: super::is_light(terms) && super::is_over_different(terms, relation) && super::first_unknown(terms, relation, domains.len()).is_none()";
+        lone_loss(&domains(), &[Term { coefficient: i64::MAX, variable: 0 }], at_most) => "the condition of `lone_loss` is broken: super::is_light(terms) && super::is_over_different(terms, relation) && super::first_unknown(terms, relation, domains.len()).is_none()";
+        ends_of(&unknown, &domains()) => "the condition of `ends_of` is broken: super::is_light(terms) && super::is_over_different(terms, super::Relation::AtMost(0)) && super::first_unknown(terms, super::Relation::AtMost(0), domains.len()).is_none()";
+        rest_of_term(&domains(), &[known], at_most, None, 1) => "the condition of `rest_of_term` is broken: k < terms.len() && super::is_light(terms) && super::is_over_different(terms, relation) && super::first_unknown(terms, relation, domains.len()).is_none()";
+        rest_of_teller(&domains(), 1, 3, None) => "the condition of `rest_of_teller` is broken: variable < domains.len()";
+    }
+}
+
+#[test]
+#[cfg(debug_assertions)]
 fn debug_builds_test_the_conditions_of_pages_maps_and_searches() {
     use intervallum::proved::ivl_map::IntervalMap;
     use intervallum::proved::ivl_network::network::Network;

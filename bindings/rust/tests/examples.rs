@@ -21,6 +21,7 @@ programs! {
     free_pages "../examples/free_pages.rs";
     in_a_static "../examples/in_a_static.rs";
     keys_and_threads "../examples/keys_and_threads.rs";
+    leases "../examples/leases.rs";
     lexer_classes "../examples/lexer_classes.rs";
     names "../examples/names.rs";
     ports "../examples/ports.rs";

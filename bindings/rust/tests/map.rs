@@ -153,6 +153,98 @@ fn parts_of_maps_and_maps_of_two() {
     changed.update(5..5, |_| panic!("an empty range asks nothing"));
 }
 
+#[test]
+fn edits_of_sets_of_maps_and_by_functions() {
+    let map = Map::from([(1..=5, 1), (6..=9, 2), (12..=20, 3)]);
+    let some = IntervalSet::from([2..=3, 5..=6, 15..=40]);
+    let edited = |edit: fn(&mut Map<i32>, &IntervalSet<i32>)| {
+        let mut edited = map.clone();
+        edit(&mut edited, &some);
+        told(&edited)
+    };
+    assert_eq!(
+        edited(|map, set| map.insert_set(set, 2)),
+        [(1, 1, 1), (2, 3, 2), (4, 4, 1), (5, 9, 2), (12, 14, 3), (15, 40, 2)]
+    );
+    assert_eq!(edited(|map, set| map.insert_set(&PagedSet::from(set), 2)), edited(|map, set| map.insert_set(set, 2)));
+    assert_eq!(edited(|map, _| map.insert_set(&IntervalSet::empty(), 2)), told(&map));
+    assert_eq!(edited(|map, set| assert!(map.remove_set(set))), told(&map.without(&some)));
+    assert_eq!(edited(|map, set| assert!(map.remove_set(&PagedSet::from(set)))), told(&map.without(&some)));
+    assert_eq!(edited(|map, _| assert!(!map.remove_set(&IntervalSet::from([0, 10, 99])))), told(&map));
+    assert_eq!(edited(|map, _| map.retain(|run, value| run.contains(&6) || *value == 3)), [(6, 9, 2), (12, 20, 3)]);
+    assert_eq!(edited(|map, _| map.retain(|_, _| false)), []);
+    assert_eq!(
+        edited(|map, _| map.append(&mut Map::from([(4..=7, 9), (30..=31, 3)]))),
+        [(1, 3, 1), (4, 7, 9), (8, 9, 2), (12, 20, 3), (30, 31, 3)]
+    );
+    assert_eq!(edited(|map, _| map.append(&mut Map::new())), told(&map));
+    assert_eq!(edited(|map, _| Map::new().append(map)), []);
+    assert_eq!(edited(|map, _| assert_eq!(told(&map.split_off(8)), [(8, 9, 2), (12, 20, 3)])), [(1, 5, 1), (6, 7, 2)]);
+    assert_eq!(edited(|map, _| assert_eq!(map.split_off(i32::MIN).interval_count(), 3)), []);
+    assert_eq!(edited(|map, _| assert!(map.split_off(21).is_empty())), told(&map));
+    assert_eq!(
+        edited(|map, _| map.combine(4..=13, |old| old.map_or(Some(2), |old| (*old == 1).then_some(2)))),
+        [(1, 3, 1), (4, 5, 2), (10, 11, 2), (14, 20, 3)]
+    );
+    assert_eq!(edited(|map, _| map.combine(.., |_| Some(7))), [(-i32::MAX, i32::MAX, 7)]);
+    assert_eq!(edited(|map, _| map.combine(.., |_| None)), []);
+    assert_eq!(edited(|map, _| map.combine(5..5, |_| unreachable!())), told(&map));
+    let mut count = 0;
+    map.clone().update(.., |value| {
+        count += value;
+        *value
+    });
+    assert_eq!((count, map.numbers_with(|value| (count == 6, count += value).0).size()), (6, 5));
+    assert_eq!((&map & &some, &map & &PagedSet::from(&some)), (map.restrict_to(&some), map.restrict_to(&some)));
+    assert_eq!(told(&(&map | &Map::from([(4..=6, 9)]))), [(1, 3, 1), (4, 6, 9), (7, 9, 2), (12, 20, 3)]);
+    assert_eq!((Map::<u8>::merge_of([], |_, _| 0), Map::merge_of([&map], |_, _| 0)), (Map::new(), map));
+}
+
+#[test]
+fn questions_about_ranges() {
+    let map = Map::from([(1..=5, "a"), (6..=9, "b"), (12..=20, "a")]);
+    let none = Map::<String>::empty();
+    assert!(
+        map.includes(1..=9) && !map.includes(1..=10) && !map.includes(0..=5) && map.includes(7) && map.includes(30..30)
+    );
+    assert!(!map.includes(9..=12) && !map.includes(i32::MIN..) && none.includes(5..5) && !none.includes(5));
+    assert!(
+        map.overlaps(9..12) && !map.overlaps(10..12) && map.overlaps(..) && !map.overlaps(5..5) && !none.overlaps(..)
+    );
+    assert_eq!((map.size_within(4..=12), map.size_within(10..12), none.size_within(..)), (7, 0, 0));
+    let parts = map.overlapping_within(5..=13);
+    assert_eq!(format!("{parts:?}"), r#"IterWithin {5..=5: "a", 6..=9: "b", 12..=13: "a"}"#);
+    assert_eq!((parts.len(), parts.clone().count(), parts.clone().last()), (3, 3, Some((12..=13, &"a"))));
+    assert_eq!((parts.clone().nth(1), parts.clone().nth_back(2)), (Some((6..=9, &"b")), Some((5..=5, &"a"))));
+    assert_eq!(parts.rev().map(|(run, _)| *run.start()).collect::<Vec<_>>(), [12, 6, 5]);
+    assert!(map.overlapping_within(7..7).next().is_none() && none.overlapping_within(..).next().is_none());
+    assert_eq!((map[5], map[6], &map.overlapping_within(7..=8).next()), ("a", "b", &Some((7..=8, &"b"))));
+    assert_eq!(message(|| _ = map[10]), "IntervalMap::index(10): the number must have a value");
+    let mut octets = IntervalMap::from([(1..=5u8, 'a')]);
+    let told = message(|| octets.combine(250..=255, |_| unreachable!()));
+    assert_eq!(told, "IntervalMap::combine(250..=255): the numbers must be from 0 to 254");
+    assert_eq!(octets.checked_combine(250..=255, |_| unreachable!()), None);
+}
+
+#[test]
+fn maps_are_in_the_order_of_their_numbers() {
+    let all = [
+        Map::new(),
+        Map::from([(1, 5)]),
+        Map::from([(1, 5), (2, 4)]),
+        Map::from([(1..=2, 5)]),
+        Map::from([(1..=2, 5), (3..=3, 4)]),
+        Map::from([(1..=3, 5)]),
+        Map::from([(1..=2, 5), (3..=3, 6)]),
+        Map::from([(1..=2, 5), (9..=9, 0)]),
+        Map::from([(1, 5), (3, 0)]),
+        Map::from([(1, 6)]),
+        Map::from([(2, 0)]),
+    ];
+    assert!(all.is_sorted_by(|a, b| a < b));
+    assert!(all.iter().rev().is_sorted_by(|a, b| a > b) && all.iter().all(|a| a.cmp(a).is_eq()));
+}
+
 /// The message of the panic of a call.
 fn message(call: impl FnOnce()) -> String {
     let fault = panic::catch_unwind(AssertUnwindSafe(call)).unwrap_err();
@@ -259,9 +351,14 @@ fn entries_by_value_are_not_copied() {
         }
     }
 
-    let mut map = IntervalMap::from([(1..=2u8, Single(1)), (5..=6, Single(2))]);
+    // later ranges hide parts of others, but none has numbers on both sides of a later one
+    let list =
+        [(4..=6u8, Single(2)), (20..=29, Single(5)), (22..=24, Single(6)), (1..=3, Single(1)), (21..=40, Single(7))];
+    let mut map = IntervalMap::from(list);
     map.insert(5..=9, Single(3));
-    assert_eq!(map.into_iter().collect::<Vec<_>>(), [(1..=2, Single(1)), (5..=9, Single(3))]);
+    map.retain(|run, _| *run.start() > 1);
+    let wanted = [(4..=4, Single(2)), (5..=9, Single(3)), (20..=20, Single(5)), (21..=40, Single(7))];
+    assert_eq!(map.into_iter().collect::<Vec<_>>(), wanted);
 }
 
 #[test]
@@ -354,6 +451,23 @@ fn calls_of_many_entries() {
     assert_eq!((map.restrict_to(&some), map.without(&some).interval_count()), (map.cut_to(5_002..15_002), 1_001));
     assert_eq!(map.without(&some).merge(&map.restrict_to(&some), |_, _| unreachable!()), map);
     assert_eq!((map.merge(&map, |x, y| x + y).get(15_001), format!("{map:?}").len() > 20_000), (Some(&3_000), true));
+
+    let middles: IntervalSet<i32> = (0..2_000).map(|i| 10 * i + 2).collect();
+    let (mut cut, mut written, mut kept) = (map.clone(), map.clone(), map.clone());
+    assert!(cut.remove_set(&middles) && cut == map.without(&middles) && cut.interval_count() == 4_000);
+    written.insert_set(&middles, -1);
+    assert_eq!(
+        (written.interval_count(), written.get(10_002), written.without(&middles)),
+        (6_000, Some(&-1), cut.clone())
+    );
+    kept.retain(|_, i| i % 2 == 1);
+    assert_eq!((kept.interval_count(), kept.numbers_with(|i| i % 2 == 0).size()), (1_000, 0));
+    cut.append(&mut kept);
+    assert_eq!(
+        (cut.interval_count(), cut.split_off(10_000).interval_count(), cut.interval_count()),
+        (3_000, 1_500, 1_500)
+    );
+    assert_eq!(Map::merge_of([&map, &written, &map], |x, y| x + y).get(10_002), Some(&1_999));
 
     let mut edited = map.clone();
     assert_eq!(edited.insert_if_free(10_005..=10_009, -1), Ok(()));

@@ -61,7 +61,7 @@ fn write(model: &mut Model, range: RangeInclusive<i32>, value: u8) {
 /// Edits the pair; returns the name of the call.
 fn edit(random: &mut Random, map: &mut Map, model: &mut Model) -> &'static str {
     let (range, value) = (random.range(), random.value());
-    match random.below(12) {
+    match random.below(18) {
         0..4 => {
             map.insert(range.clone(), value);
             write(model, range, value);
@@ -99,12 +99,90 @@ fn edit(random: &mut Random, map: &mut Map, model: &mut Model) -> &'static str {
             list.into_iter().for_each(|(range, value)| write(model, range, value));
             "extend"
         }
-        _ => {
+        11 => {
             if random.below(40) == 0 {
                 map.clear();
                 model.clear();
             }
             "clear"
+        }
+        _ => edit_of_more(random, map, model, range, value),
+    }
+}
+
+/// Edits of all entries, of sets, and by a function.
+fn edit_of_more(
+    random: &mut Random,
+    map: &mut Map,
+    model: &mut Model,
+    range: RangeInclusive<i32>,
+    value: u8,
+) -> &'static str {
+    let some = IntervalSet::from([range.clone(), random.range(), random.range()]);
+    match random.below(7) {
+        0 => {
+            let all = entries(model);
+            map.retain(|run, value| (*run.end() + i32::from(*value)) % 7 != 0);
+            for (run, value) in all {
+                if (*run.end() + i32::from(value)) % 7 == 0 {
+                    model.retain(|x, _| !run.contains(x));
+                }
+            }
+            "retain"
+        }
+        1 => {
+            let changed = |old: Option<u8>| old.map_or(Some(value), |old| (old != 2).then_some((old + value) % 3));
+            let mut asked = Vec::new();
+            map.combine(range.clone(), |old| {
+                asked.push(old.copied());
+                changed(old.copied())
+            });
+            // one question for each run of numbers with equal values, or with none
+            let mut wanted: Vec<Option<u8>> = range.clone().map(|x| model.get(&x).copied()).collect();
+            wanted.dedup();
+            assert_eq!(asked, wanted);
+            for x in range {
+                match changed(model.get(&x).copied()) {
+                    Some(value) => model.insert(x, value),
+                    None => model.remove(&x),
+                };
+            }
+            "combine"
+        }
+        2 => {
+            map.insert_set(&PagedSet::from(&some), value);
+            some.iter().for_each(|x| _ = model.insert(x, value));
+            "insert_set"
+        }
+        3 => {
+            assert_eq!(map.remove_set(&some), some.iter().any(|x| model.contains_key(&x)));
+            model.retain(|x, _| !some.contains(*x));
+            "remove_set"
+        }
+        4 => {
+            let list = [(); 4].map(|()| (random.range(), random.value()));
+            let (mut other, mut added) = (Map::from(list.clone()), Model::new());
+            list.into_iter().for_each(|(range, value)| write(&mut added, range, value));
+            map.append(&mut other);
+            model.append(&mut added);
+            assert!(other.is_empty());
+            "append"
+        }
+        5 => {
+            let at = *range.start();
+            let (upper, model_upper) = (map.split_off(at), model.split_off(&at));
+            assert_same(&upper, &model_upper, 0, "split_off");
+            if random.below(4) != 0 {
+                map.append(&mut upper.clone());
+                model.extend(model_upper);
+            }
+            "split_off"
+        }
+        _ => {
+            let list: Vec<_> = (0..60).map(|_| (random.range(), random.value())).collect();
+            map.extend(list.clone());
+            list.into_iter().for_each(|(range, value)| write(model, range, value));
+            "extend by many"
         }
     }
 }
@@ -116,10 +194,21 @@ fn made(random: &mut Random, [p, q]: [&Map; 2], [u, v]: [&Model; 2]) -> (&'stati
         model.iter().filter(|(x, _)| keep(**x)).map(|(x, value)| (*x, *value)).collect()
     };
     let some = IntervalSet::from([range.clone(), random.range(), random.range()]);
-    match random.below(6) {
+    match random.below(8) {
         0 => ("cut_to", p.cut_to(range.clone()), kept(u, &|x| range.contains(&x))),
         1 => ("restrict_to", p.restrict_to(&some), kept(u, &|x| some.contains(x))),
         2 => ("without", p.without(&PagedSet::from(&some)), kept(u, &|x| !some.contains(x))),
+        5 => ("and", p & &some, kept(u, &|x| some.contains(x))),
+        6 => {
+            let third = p.cut_to(range.clone());
+            let mut model = kept(u, &|x| range.contains(&x));
+            for (x, value) in u.iter().chain(v) {
+                model.entry(*x).and_modify(|sum| *sum = (*sum + value) % 3).or_insert(*value);
+            }
+            let sums = Map::merge_of([&third, p, q], |x, y| (x + y) % 3);
+            assert_eq!(Map::merge_of([p, q, &third, q], |_, later| *later), p | q);
+            ("merge_of", sums, model)
+        }
         3 => ("without the keys", p.without(&q.keys()), kept(u, &|x| !v.contains_key(&x))),
         4 => {
             let both = |x: &u8, y: &u8| (2 * x + y) % 3;
@@ -163,6 +252,13 @@ fn ask_within(map: &Map, model: &Model, range: RangeInclusive<i32>, count: u32) 
     let with: Vec<i32> = model.iter().filter(|(_, value)| **value == 1).map(|(x, _)| *x).collect();
     assert!(map.numbers_with(|value| *value == 1).iter().eq(with));
     assert!(map.keys().iter().eq(model.keys().copied()));
+    let within: Vec<_> = range.clone().filter_map(|x| Some((x, *model.get(&x)?))).collect();
+    let parts = map.overlapping_within(range.clone());
+    assert_eq!(parts.len(), map.overlapping(range.clone()).len());
+    assert!(parts.flat_map(|(run, value)| run.map(move |x| (x, *value))).eq(within.iter().copied()));
+    assert_eq!(map.size_within(range.clone()) as usize, within.len());
+    assert_eq!(map.overlaps(range.clone()), !within.is_empty());
+    assert_eq!(map.includes(range.clone()), range.count() == within.len());
 }
 
 fn hash_of(map: &Map) -> u64 {
@@ -185,6 +281,8 @@ fn random_calls_beside_a_btree_map() {
                 let (range, count) = (random.range(), random.below(5) as u32 + 1);
                 ask_within(p, u, range, count);
                 assert_eq!((*p == *q, p.clone() == *p), (u == v, true));
+                assert_eq!(((*p).cmp(q), (*q).cmp(p)), ((*u).cmp(v), (*v).cmp(u)));
+                assert!(u.keys().all(|x| p[*x] == u[x]));
                 assert_eq!(hash_of(&entries(u).into_iter().collect()), hash_of(p));
                 "questions"
             }
@@ -203,7 +301,34 @@ fn random_calls_beside_a_btree_map() {
             pairs.swap(0, 1);
         }
     }
-    assert!(calls.len() == 14 && calls.values().all(|count| *count > 1_000), "{calls:?}");
+    assert!(calls.len() == 23 && calls.values().all(|count| *count > 300), "{calls:?}");
+}
+
+/// Lists of many ranges of all lengths, in random order and in order, written at once: as if one after another.
+#[test]
+fn lists_of_ranges_beside_an_array() {
+    let mut random = Random(77_777);
+    for round in 0..400 {
+        let (count, width) = (random.below(300) as usize, random.below([4, 40, 200][round % 3]) + 2);
+        let mut list: Vec<(RangeInclusive<i32>, u8)> = Vec::new();
+        for _ in 0..count {
+            let lower = random.below(1_000) as i32;
+            list.push((lower..=lower + random.below(width) as i32 - 1, random.below(5) as u8));
+        }
+        match round % 4 {
+            0 => list.sort_by_key(|(range, _)| *range.start()),
+            1 => list.sort_by_key(|(range, _)| std::cmp::Reverse(*range.end())),
+            _ => {}
+        }
+        let (first, second) = list.split_at(random.below(count as u64 + 1) as usize);
+        let mut map: Map = first.iter().cloned().collect();
+        let mut model = Model::new();
+        first.iter().for_each(|(range, value)| write(&mut model, range.clone(), *value));
+        assert_same(&map, &model, round as u32, "collect");
+        map.extend(second.to_vec());
+        second.iter().for_each(|(range, value)| write(&mut model, range.clone(), *value));
+        assert_same(&map, &model, round as u32, "extend");
+    }
 }
 
 /// A million edits of a map over the 256 numbers of a byte, beside an array. A debug build makes 200,000 of them.

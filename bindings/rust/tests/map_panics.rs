@@ -138,6 +138,62 @@ fn edits_by_a_function_and_of_more_entries() {
 }
 
 #[test]
+fn edits_by_sets_and_of_all_entries() {
+    let changed = |map: &mut Map, range| {
+        map.combine(range, |old| {
+            step("function");
+            old.map_or(Some(Touchy(1)), |old| (old.0 != 2).then(|| Touchy(old.0 + 1)))
+        })
+    };
+    assert!(everywhere(changed) > 1000);
+    let set =
+        |range: RangeInclusive<u8>| IntervalSet::from([*range.start()..=*range.start(), *range.end()..=*range.end()]);
+    assert!(everywhere(|map, range| map.insert_set(&set(range), Touchy(2))) > 1000);
+    assert!(everywhere(|map, range| _ = map.remove_set(&set(range))) > 100);
+    for entries in MAPS {
+        for at in 0..=LAST {
+            at_each_step(entries, at..=LAST, |map| _ = map.split_off(at));
+            at_each_step(entries, 0..=LAST, |map| {
+                map.retain(|run, value| {
+                    step("function");
+                    *run.start() > at || value.0 == 2
+                })
+            });
+            at_each_step(entries, at..=LAST, |map| map.append(&mut Map::from([(at..=LAST, Touchy(1))])));
+        }
+    }
+}
+
+/// Where writes one by one would move many entries, the map is made anew: what panics leaves all as it was, or as it was to be.
+#[test]
+fn edits_of_many_entries_at_once() {
+    let entries = || (0..84u8).map(|i| (3 * i..=3 * i + 1, Touchy(u32::from(i))));
+    let writes = || (0..84u8).map(|i| (3 * i + 1..=3 * i + 2, Touchy(u32::from(i) / 2)));
+    let told = |map: &Map| map.iter().map(|(run, value)| (run, value.0)).collect::<Vec<_>>();
+    type Edit = fn(&mut Map, Vec<(RangeInclusive<u8>, Touchy)>);
+    let edits: [Edit; 3] = [
+        |map, writes| map.extend(writes),
+        |map, writes| map.append(&mut writes.into_iter().collect()),
+        |map, writes| _ = map.remove_set(&writes.into_iter().map(|(run, _)| run).collect::<IntervalSet<u8>>()),
+    ];
+    for edit in edits {
+        let (before, mut wanted) = (entries().collect::<Map>(), entries().collect::<Map>());
+        edit(&mut wanted, writes().collect());
+        for steps in 1.. {
+            let (mut map, writes) = (entries().collect::<Map>(), writes().collect());
+            LEFT.set(steps);
+            let made = panic::catch_unwind(AssertUnwindSafe(|| edit(&mut map, writes)));
+            LEFT.set(usize::MAX);
+            assert!([told(&before), told(&wanted)].contains(&told(&map)), "step {steps}: {made:?}, {map:?}");
+            if made.is_ok() {
+                assert!(steps > 100 && told(&map) == told(&wanted));
+                break;
+            }
+        }
+    }
+}
+
+#[test]
 fn an_entry_that_grows_over_others() {
     let entries = [(7..=9, 2), (15..=19, 1)];
     let mut map = Map::new();

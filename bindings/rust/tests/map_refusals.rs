@@ -126,12 +126,11 @@ fn edits_that_need_no_memory_are_not_refused() {
 /// A question that asks for memory, and whether its answer is right.
 type Question = fn(&Map, &IntervalSet<i64>) -> Result<bool, AllocError>;
 
-const QUESTIONS: [(&str, Question); 10] = [
+const QUESTIONS: [(&str, Question); 9] = [
     ("try_clone", |map, _| Ok(map.try_clone()? == *map)),
     ("keys", |map, _| Ok(map.keys()?.interval_count() == 10)),
     ("numbers_with", |map, _| Ok(map.numbers_with(|value| *value.0 > 4)?.interval_count() == 5)),
     ("gaps_within", |map, _| Ok(map.gaps_within(Interval::new(0, 100))?.interval_count() == 10)),
-    ("first_fit", |map, _| Ok(map.first_fit(Interval::new(0, 100), 3)? == Some(Interval::new(68, 70)))),
     ("cut_to", |map, _| Ok(map.cut_to(Interval::new(3, 16))?.interval_count() == 3)),
     ("restrict_to", |map, set| Ok(map.restrict_to(set)?.interval_count() == 6)),
     ("without", |map, set| Ok(map.without(set)?.interval_count() == 10)),
@@ -163,6 +162,13 @@ fn questions() {
         }
         assert!(refused > 0, "{name}");
     }
+}
+
+#[test]
+fn a_search_for_room_needs_no_memory() {
+    let map = ten();
+    let (fits, told) = cost(|| [2, 3].map(|count| map.first_fit(Interval::new(0, 100), count).unwrap()));
+    assert_eq!((fits, told.allocations), ([Some(Interval::new(5, 6)), Some(Interval::new(68, 70))], 0));
 }
 
 /// The impls of values beside the numbers.

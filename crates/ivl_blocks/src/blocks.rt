@@ -7,10 +7,11 @@ ghost use Rattle.ivl_lines.specs.Answered.{AnswersOrLoses, IsAnswered};
 ghost use Rattle.ivl_lines.specs.Commands.{no_memory};
 ghost use Rattle.ivl_lines.specs.Lines.{ended_lines_of, lines_of, with_newline};
 ghost use Rattle.ivl_lines.specs.Words.{words_between};
-ghost use Rattle.ivl_blocks.specs.Answering.{AnswersLine, IsLongestRun, ShowsFree, ShowsLongest};
+ghost use Rattle.ivl_blocks.specs.Answering.{AnswersLine, IsLongestRun, ShowsFree, ShowsLongest, run_word};
 
+use crate::helps::write_help;
 use intervallum::interval::Interval;
-use ivl_allocator::{all_free, give, take, write_run};
+use ivl_allocator::{Fault, all_free, give, is_comment, take, write_fault, write_run};
 use ivl_lines::{AnswersCommands, SessionFault, next_word, serve};
 use ivl_paged::PagedSet;
 use std::alloc::Global;
@@ -52,11 +53,13 @@ impl AnswersCommands for Blocks {
         writer: &mut W,
     ) -> io::Result<()> {
         match name {
-            "take" => take(&mut self.free, COUNT, words, writer),
-            "give" => give(&mut self.free, "blocks", 0, LAST, words, writer),
+            "take" => take(&mut self.free, 0, LAST, COUNT, words, writer),
+            "give" => give(&mut self.free, 0, LAST, words, writer),
             "free" => show(&self.free, words, writer),
             "largest" => show_longest(&self.free, words, writer),
-            _ => writer.write_all(b"error: write take COUNT, give FIRST LAST, free or largest\n"),
+            "help" => write_help(writer, words),
+            _ if is_comment(name) => Ok(()),
+            _ => write_fault(writer, &Fault::Command(name)),
         }
     }
 }
@@ -98,7 +101,7 @@ fn show<W: Write>(free: &PagedSet<u64>, words: &str, writer: &mut W) -> io::Resu
         × Appends (W.contents writer.old) (W.contents writer.new) text) }
 {
     match next_word(words) {
-        Some(_) => writer.write_all(b"error: write free\n"),
+        Some(_) => write_fault(writer, &Fault::Form("free")),
         None => write_free(writer, free),
     }
 }
@@ -106,10 +109,17 @@ fn show<W: Write>(free: &PagedSet<u64>, words: &str, writer: &mut W) -> io::Resu
 /// Writes how many blocks are free, and in how many runs.
 fn write_free<W: Write>(writer: &mut W, free: &PagedSet<u64>) -> io::Result<()>
     ensures { OnOk result ((size : ℕ) × IsCountOf size (Covers free.now)
-        × Appends (W.contents writer.old) (W.contents writer.new) (decimal size ++ (codes " free in " ++ (decimal (length free.now) ++ with_newline (codes " runs"))))) }
+        × Appends (W.contents writer.old) (W.contents writer.new) (decimal size ++ (codes " free in " ++ (decimal (length free.now) ++ (codes " " ++ with_newline (run_word (length free.now))))))) }
 {
     let (size, runs) = (free.size(), free.interval_count());
-    writeln!(writer, "{size} free in {runs} runs")
+    let word = word_for(runs);
+    writeln!(writer, "{size} free in {runs} {word}")
+}
+
+fn word_for(runs: usize) -> &'static str
+    ensures { result.now ≡ run_word runs }
+{
+    if runs == 1 { "run" } else { "runs" }
 }
 
 /// Answers `largest`, given the words after it: the lowest of the longest runs, or `none`.
@@ -119,7 +129,7 @@ fn show_longest<W: Write>(free: &PagedSet<u64>, words: &str, writer: &mut W) -> 
         × Appends (W.contents writer.old) (W.contents writer.new) text) }
 {
     if next_word(words).is_some() {
-        return writer.write_all(b"error: write largest\n");
+        return write_fault(writer, &Fault::Form("largest"));
     }
     match longest(free) {
         Some(run) => write_run(writer, &run),

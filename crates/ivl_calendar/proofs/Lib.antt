@@ -1,4 +1,5 @@
 pub mod Answering
+pub mod Bookings
 pub mod Free
 pub mod Listing
 pub mod Maps

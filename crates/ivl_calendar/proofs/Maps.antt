@@ -13,7 +13,7 @@ use Rattle.std.proofs.lemmas.Bool.{cases_Bool}
 use Rattle.std.proofs.lemmas.Map.Steps.{set_value_same}
 use Rattle.std.proofs.lemmas.Map.Text.{is_eq-slice_cmp}
 use Rattle.ivl_laws.specs.Sets.{HasNone, Intersection, IsBetween}
-use Rattle.ivl_calendar.specs.Rooms.{Bookings, Books, IsAdded, IsBookedFor, IsBusy, Rooms, busy_of, rooms_of}
+use Rattle.ivl_calendar.specs.Rooms.{Bookings, Books, Cancels, IsAdded, IsBookedFor, IsBusy, IsFreed, Rooms, busy_of, rooms_of}
 
 abbrev Entries : Type 0
 Entries = List (String Global × Bookings)
@@ -88,6 +88,20 @@ booked false m n rooms name days who busy w is found entries runs unless kept =
     let same : w ≡ busy = kept (λ e. cc) in
     let put : n.entries ≡ set_value (is_at (compares name)) m.entries busy = subst (λ (v : Bookings). n.entries ≡ set_value (is_at (compares name)) m.entries v) same entries in
     (busy, sym (looked_up m rooms name is) ∙ found, ((λ none. let e = unless.1 none in cc), unwritten m n rooms name busy is found put))
+
+-- what a cancellation leaves of the room
+pub cancelled : (done : Bool) (m n : BTreeMap (String Global) Bookings) (rooms : Rooms) (name : List ℕ) (days : ℤ × ℤ) (busy w : Bookings) → rooms_of m ≡ rooms → get_by (compares name) m ≡ Some busy
+    → n.entries ≡ set_value (is_at (compares name)) m.entries w
+    → (IsTrue done → IsFreed days busy w)
+    → ((¬ (IsTrue done)) ↔ HasNone (Intersection (IsBusy busy) (IsBetween days)))
+    → (¬ (IsTrue done) → w ≡ busy)
+    → (old : Bookings) × (busy_of rooms name ≡ Some old) × Cancels done name old days rooms (rooms_of n)
+cancelled true m n rooms name days busy w is found entries freed free kept =
+    (busy, sym (looked_up m rooms name is) ∙ found, ((λ none. free.1 none refl), (w, freed refl, written m n rooms name w is entries)))
+cancelled false m n rooms name days busy w is found entries freed free kept =
+    let same : w ≡ busy = kept (λ e. cc) in
+    let put : n.entries ≡ set_value (is_at (compares name)) m.entries busy = subst (λ (v : Bookings). n.entries ≡ set_value (is_at (compares name)) m.entries v) same entries in
+    (busy, sym (looked_up m rooms name is) ∙ found, (free.0 (λ e. cc), unwritten m n rooms name busy is found put))
 
 -- what is left where memory ran out
 pub unbooked : (m n : BTreeMap (String Global) Bookings) (rooms : Rooms) (name : List ℕ) (busy w : Bookings) → rooms_of m ≡ rooms → get_by (compares name) m ≡ Some busy

@@ -7,13 +7,13 @@ use Rattle.std.proofs.lemmas.Bool.{cases_Bool}
 use Rattle.std.proofs.lemmas.Int.{ints, by_lt_z}
 use Rattle.std.proofs.lemmas.Slice.Eq.{bytes_eq-Decides}
 use Rattle.jiff.specs.Words.{IsEpochDay}
-use Rattle.ivl_laws.specs.Sets.{AtLeast, HasNone, Intersection, IsBetween, IsSubset, Without}
+use Rattle.ivl_laws.specs.Sets.{AtLeast, HasNone, Intersection, IsBetween, IsSubset, Union, Without}
 use Rattle.ivl_laws.specs.Runs.{Covers, IsMaximal, IsRunsOf, StartsAfter}
-use Rattle.ivl_map.specs.Entries.{FirstStartsAbove, HasAt, HasValue, IsEntryList, IsPast, SameValues, Written, intervals_of}
+use Rattle.ivl_map.specs.Entries.{FirstStartsAbove, HasAt, HasValue, IsEntryList, IsPast, Outside, SameValues, Written, intervals_of}
 use Rattle.ivl_map.specs.Lookups.{IsFirstRunOf}
 use Rattle.ivl_map.proofs.Windows.{keys_are}
 use Rattle.ivl_calendar.specs.Names.{runs_for}
-use Rattle.ivl_calendar.specs.Rooms.{IsBusy, named_of}
+use Rattle.ivl_calendar.specs.Rooms.{Bookings, IsBusy, IsFor, IsFreed, named_of}
 use Rattle.ivl_calendar.proofs.Spans.{itself}
 
 abbrev pub Kept : Type 0
@@ -73,6 +73,53 @@ dates_with E D days v h dates first last z c =
     (omega (arith, ints), omega (arith, ints)))
     (λ k. dates z (string_bytes s.0, in_bytes E z s.0 k.0))
     ((h z s.0).0 s.1)
+
+-- ---- days that are freed
+
+pub removed_in_bytes : (E D : Kept) (days : ℤ × ℤ) → SameValues (HasAt string_eq D) (Outside days (HasAt string_eq E)) → SameValues (HasAt bytes_eq (named_of D)) (Outside days (HasAt bytes_eq (named_of E)))
+removed_in_bytes E D days h z who = (
+  (λ c.
+      let s = some_text D z who c in
+      let k = (h z s.0).0 s.2 in
+      (subst (λ (t : List ℕ). HasAt bytes_eq (named_of E) z t) s.1 (in_bytes E z s.0 k.0), k.1)),
+  (λ k.
+      let s = some_text E z who k.0 in
+      subst (λ (t : List ℕ). HasAt bytes_eq (named_of D) z t) s.1 (in_bytes D z s.0 ((h z s.0).1 (s.2, k.1)))),
+)
+
+-- the days that are left are dates
+pub dates_without : (E D : Kept) (days : ℤ × ℤ) → SameValues (HasAt string_eq D) (Outside days (HasAt string_eq E)) → IsSubset (HasValue (HasAt bytes_eq (named_of E))) IsEpochDay → IsSubset (HasValue (HasAt bytes_eq (named_of D))) IsEpochDay
+dates_without E D days h dates z c =
+    let s = value_as_text D z c in
+    dates z (string_bytes s.0, in_bytes E z s.0 ((h z s.0).0 s.1).0)
+
+pub dates_of_rest : (L M : List (ℤ × ℤ)) (days : ℤ × ℤ) → IsRunsOf M (Without (Covers L) (IsBetween days)) → IsSubset (Covers L) IsEpochDay → IsSubset (Covers M) IsEpochDay
+dates_of_rest L M days is dates z m = dates z ((is.members z).0 m).0
+
+pub dates_of_union : (L M : List (ℤ × ℤ)) (days : ℤ × ℤ) → IsRunsOf M (Union (Covers L) (IsBetween days)) → IsSubset (Covers L) IsEpochDay → IsEpochDay days.0 → IsEpochDay days.1 → IsSubset (Covers M) IsEpochDay
+dates_of_union L M days is dates first last z m =
+    ⊎_elim
+    (λ c. dates z c)
+    (λ b.
+    let low = b.0 in
+    let high = b.1 in
+    let f = first.0 in
+    let l = last.1 in
+    (omega (arith, ints), omega (arith, ints)))
+    ((is.members z).0 m)
+
+-- none of the days has no name, or none has one
+pub freed_named : (old new : Bookings) (days : ℤ × ℤ) → IsMaximal old.0 → HasNone (Intersection (Covers old.0) (IsBetween days)) → SameValues (IsFor new) (Outside days (IsFor old)) × (new.0 ≡ old.0) → IsFreed days old new
+freed_named old new days maximal none h = (
+  subst (λ (L : List (ℤ × ℤ)). IsRunsOf L (Without (Covers old.0) (IsBetween days))) (sym h.1) (record { maximal = maximal; members = λ z. ((λ m. (m, λ b. none z (m, b))), (λ k. k.0)) }),
+  h.0,
+)
+
+pub freed_unnamed : (old new : Bookings) (days : ℤ × ℤ) → HasNone (Intersection (IsBetween days) (HasValue (IsFor old))) → IsRunsOf new.0 (Without (Covers old.0) (IsBetween days)) × (new.1 ≡ old.1) → IsFreed days old new
+freed_unnamed old new days none h = (
+  h.0,
+  subst (λ (B : List ((ℤ × ℤ) × List ℕ)). SameValues (HasAt bytes_eq B) (Outside days (IsFor old))) (sym h.1) (λ z who. ((λ k. (k, λ b. none z (b, (who, k)))), (λ k. k.0))),
+)
 
 -- ---- the first booking that is in the way
 
@@ -213,6 +260,13 @@ module _ (left later : Kept) (booking : (ℤ × ℤ) × String Global) (is : lef
   first_dates h z b =
       let all : IsSubset (HasValue (HasAt string_eq (booking ∷ later))) IsEpochDay = subst (λ (L : Kept). IsSubset (HasValue (HasAt string_eq L)) IsEpochDay) is h in
       all z (booking.1, inl (b, string_eq_equiv.refl booking.1))
+
+  pub first_span : IsEntryList string_eq left → IsSubset (HasValue (HasAt string_eq left)) IsEpochDay → (booking.0.0 ≤ℤ booking.0.1) × IsEpochDay booking.0.0 × IsEpochDay booking.0.1
+  first_span m h =
+      let all : IsEntryList string_eq (booking ∷ later) = subst (λ (L : Kept). IsEntryList string_eq L) is m in
+      let order : booking.0.0 ≤ℤ booking.0.1 = all.0 in
+      let dates = first_dates h in
+      (order, dates booking.0.0 (itself booking.0.0, order), dates booking.0.1 (order, itself booking.0.1))
 
   pub later_dates : IsSubset (HasValue (HasAt string_eq left)) IsEpochDay → IsSubset (HasValue (HasAt string_eq later)) IsEpochDay
   later_dates h z v =

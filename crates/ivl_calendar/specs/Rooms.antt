@@ -10,15 +10,17 @@
 --     IsBookedFor days who room more      the bookings of a room, and the same with these days booked: for the name who, or without one
 --     IsBooked name room days who old new      the room with these bookings is booked on some more days
 --     Books done name room days who old new      whether the room with these bookings was free on the days, and so is booked
+--     IsFreed days room less      the bookings of a room, and the same without those of these days
+--     Cancels done name room days old new      whether the room with these bookings was booked on one of the days, and so is freed on all of them
 --     IsRunFrom days day run      these days begin with the run, as far as they are not before that day
 --     IsFreeInAll rooms window z      day z lies in the window, and no room is booked on it
 use Rattle.std.specs.Prelude.{◌≡◌, ◌⊎◌, ◌≤ℤ◌, ℕ, ℤ, Bool, true, false, List, [], ◌∷◌, ◌++◌, All, Option, None, Some, bytes_eq, map, string_bytes, String}
 use Rattle.std.specs.BTreeMap.{BTreeMap}
 use Rattle.std.specs.Global.{Global}
 use Rattle.std.specs.Map.{lookup, set_value}
-use Rattle.ivl_laws.specs.Sets.{AtLeast, HasNone, Intersection, IsBetween, IsSubset, Union}
+use Rattle.ivl_laws.specs.Sets.{AtLeast, HasNone, Intersection, IsBetween, IsSubset, Union, Without}
 use Rattle.ivl_laws.specs.Runs.{Covers, IsRunsOf}
-use Rattle.ivl_map.specs.Entries.{HasAt, HasValue, SameValues, Written}
+use Rattle.ivl_map.specs.Entries.{HasAt, HasValue, Outside, SameValues, Written}
 
 abbrev pub Bookings : Type 0
 Bookings = List (ℤ × ℤ) × List ((ℤ × ℤ) × List ℕ)
@@ -58,6 +60,19 @@ Books true name room days who old new =
     HasNone (Intersection (IsBusy room) (IsBetween days)) × IsBooked name room days who old new
 Books false name room days who old new =
     (¬ (HasNone (Intersection (IsBusy room) (IsBetween days)))) × (new ≡ old)
+
+abbrev pub IsFreed : ℤ × ℤ → Bookings → Bookings → Type 0
+IsFreed days room less = IsRunsOf less.0 (Without (Covers room.0) (IsBetween days)) × SameValues (IsFor less) (Outside days (IsFor room))
+
+abbrev pub IsCancelled : List ℕ → Bookings → ℤ × ℤ → Rooms → Rooms → Type 0
+IsCancelled name room days old new =
+    (less : Bookings) × IsFreed days room less × (new ≡ set_value (λ known. bytes_eq name known) old less)
+
+abbrev pub Cancels : Bool → List ℕ → Bookings → ℤ × ℤ → Rooms → Rooms → Type 0
+Cancels true name room days old new =
+    (¬ (HasNone (Intersection (IsBusy room) (IsBetween days)))) × IsCancelled name room days old new
+Cancels false name room days old new =
+    HasNone (Intersection (IsBusy room) (IsBetween days)) × (new ≡ old)
 
 abbrev pub IsFreeInAll : Rooms → ℤ × ℤ → ℤ → Type 0
 IsFreeInAll rooms window z = IsBetween window z × All (λ room. ¬ (IsBusy room.1 z)) rooms

@@ -1,8 +1,10 @@
 //! Days as numbers from 1970-01-01, which is day 0, and their texts.
-ghost use Rattle.std.specs.Prelude.{◌≡◌, ◌↔◌, ℤ, IfNone, IfSome, IsSome, IsTrue};
+ghost use Rattle.std.specs.Prelude.{◌≡◌, ◌↔◌, ℤ, IfErr, IfNone, IfOk, IfSome, IsSome, IsTrue};
 ghost use Rattle.jiff.specs.Words.{date_text, epoch_day, IsEpochDay};
 ghost use Rattle.ivl_calendar.specs.Days.{IsDayText, IsWindow};
+ghost use Rattle.ivl_calendar.specs.Faults.{IsWindowFault, fault_line};
 
+use crate::faults::Fault;
 use intervallum::interval::Interval;
 use intervallum::ops::Range;
 use jiff::civil::Date;
@@ -50,22 +52,25 @@ fn has_text(date: Date, word: &str) -> bool
     DateTimePrinter::new().date_text(date.to_plain()).as_str() == word
 }
 
-/// Returns the days from one date to another, or `None` if a word is not a date or they are not in
-/// order.
-pub fn days_from(first: &str, last: &str) -> Option<Interval<i32>>
-    ensures is_window { IfSome result (IsWindow first.now last.now) }
-    ensures none { IfNone result ((window : ℤ × ℤ) → ¬ (IsWindow first.now last.now window)) }
-    ensures bound { IfSome result (λ window. IsEpochDay window.0 × IsEpochDay window.1) }
+/// Returns the days from one date to another.
+///
+/// # Errors
+///
+/// `Day` if a word is not the date of a day, and `Order` if the last day is before the first.
+pub fn days_from<'a>(first: &'a str, last: &'a str) -> Result<Interval<i32>, Fault<'a>>
+    ensures ok { IfOk result (IsWindow first.entry.now last.entry.now) }
+    ensures err { IfErr result (λ fault. IsWindowFault first.entry.now last.entry.now (fault_line fault)) }
+    ensures bound { IfOk result (λ window. IsEpochDay window.0 × IsEpochDay window.1) }
 {
-    let Some(first) = day_from(first) else {
-        return None;
+    let Some(from) = day_from(first) else {
+        return Err(Fault::Day(first));
     };
-    let Some(last) = day_from(last) else {
-        return None;
+    let Some(to) = day_from(last) else {
+        return Err(Fault::Day(last));
     };
-    if first <= last {
-        Some(Interval::new(first, last))
+    if from <= to {
+        Ok(Interval::new(from, to))
     } else {
-        None
+        Err(Fault::Order(first, last))
     }
 }

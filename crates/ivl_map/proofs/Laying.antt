@@ -3,11 +3,6 @@ use Rattle.std.proofs.Common.{◌≡◌, ℕ, zero, suc, ◌<◌, ◌≤◌, ℤ
 use Rattle.std.proofs.Math.ListN.{set}
 use Rattle.ivl_map.specs.Entries.{entry_ended, entry_led}
 
-put_again : {X : Type 0} (E N : List X) (r : X) (t : ℕ) → t ≤ length E → take t (take t E ++ N) ++ (r ∷ drop t (take t E ++ N)) ≡ take t E ++ (r ∷ N)
-put_again E N r zero h = refl
-put_again [] N r (suc t) h = absurd (omega arith)
-put_again {X} (x ∷ E) N r (suc t) h = ap {B = List X} (λ R. x ∷ R) (put_again E N r t (omega arith))
-
 -- ---- an interval is cut first, and what goes makes way then
 
 cut_below : {X : Type 0} (r n : X) (E : List X) (i j : ℕ) → i < length E → i < j →
@@ -76,10 +71,6 @@ both_cut {X} f E M D C N n i k j d h l s t e g c =
     ∙ ap (λ (L : List X). L ++ (r ∷ n ∷ drop k T)) (take_taken E N i k (omega arith) l)
     ∙ ap (λ (L : List X). take i E ++ (r ∷ n ∷ L)) (drop_taken E N k l)
     ∙ ap (λ (x : X). take i E ++ (f x ∷ n ∷ N)) there.1
-
--- r is put in front of what was put in before
-pub two_put : {X : Type 0} (E M D N : List X) (r : X) (t : ℕ) → t ≤ length E → M ≡ take t E ++ N → D ≡ take t M ++ (r ∷ drop t M) → D ≡ take t E ++ (r ∷ N)
-two_put {X} E M D N r t h e g = g ∙ ap (λ (L : List X). take t L ++ (r ∷ drop t L)) e ∙ put_again E N r t h
 
 pub ended_led : {V : Type 0} (E : List ((ℤ × ℤ) × V)) (o : Option (ℤ × ℤ)) (x : V) (N : List ((ℤ × ℤ) × V)) → entry_ended E o x ++ N ≡ E ++ entry_led o x N
 ended_led E None x N = refl

@@ -1,10 +1,11 @@
 //! Entries whose values a function changes within an interval.
-ghost use Rattle.std.specs.Prelude.{◌≡◌, ◌≤ℤ◌, Ok, IfOk, OnOk};
+ghost use Rattle.std.specs.Prelude.{◌≡◌, ◌⊎◌, ◌≤◌, ◌≤ℤ◌, suc, Ok, IfOk, OnErr, OnOk};
 ghost use Rattle.std.specs.Fn.{FnReturnsAt};
 ghost use Rattle.ivl_laws.specs.Sets.{HasSome, Intersection, IsBetween};
 ghost use Rattle.ivl_map.specs.Entries.{AllEndBelow, HasAt, IsEntriesOf, IsEntryList, Written};
 ghost use Rattle.ivl_map.specs.Changes.{IsUpdated, WrittenPast};
 
+use crate::edits::{put_list, span};
 use crate::value::MapValue;
 use crate::walks::{push_entry, push_part};
 use intervallum::interval::Interval;
@@ -50,8 +51,42 @@ fn push_updated<B: Width, V: MapValue, F: Fn(&V) -> Result<V, AllocError>>(
     push_part(entries, run.strict_shrink_left(interval.upper()), value)
 }
 
+/// The place behind a place, unless it is the end of a list.
+fn place_after(place: usize, count: usize) -> usize
+    requires { place ≤ count }
+    ensures next { (result ≡ count) ⊎ (result ≡ suc place) }
+    ensures onwards { place ≤ result }
+    ensures at_most { result ≤ count }
+{
+    if place < count { place + 1 } else { count }
+}
+
+/// Changes the values of the numbers of an interval. If `change`, the copy of a value or an allocation fails, the
+/// entries stay as they are. Those that lie next to the interval are made anew too, so that they join what is equal.
+pub(crate) fn update_in<B: Width, V: MapValue, F: Fn(&V) -> Result<V, AllocError>>(
+    entries: &mut Vec<(Interval<B>, V)>,
+    interval: Interval<B>,
+    change: F,
+) -> Result<(), AllocError>
+    requires callable { F.IsAlwaysCallable change }
+    requires filled { interval.0 ≤ℤ interval.1 }
+    requires entries { IsEntryList V.eq entries.old.items }
+    ensures ok { OnOk result (IsUpdated V.eq (λ v w. FnReturnsAt F.Fn change v (Ok w)) (IsBetween interval) entries.old.items entries.new.items) }
+    ensures err { OnErr result (entries.new.items ≡ entries.old.items) }
+{
+    let (start, end) = span(entries, interval);
+    if end <= start {
+        return Ok(());
+    }
+    let first = start.saturating_sub(1);
+    let last = place_after(end, entries.len());
+    let alloc = *entries.allocator();
+    let made = updated(alloc, &entries[first..last], interval, change)?;
+    put_list(entries, first, last, made)
+}
+
 /// The entries with a changed value at the numbers of an interval.
-pub(crate) fn updated<B: Width, V: MapValue, F: Fn(&V) -> Result<V, AllocError>>(
+fn updated<B: Width, V: MapValue, F: Fn(&V) -> Result<V, AllocError>>(
     alloc: Global,
     entries: &[(Interval<B>, V)],
     interval: Interval<B>,

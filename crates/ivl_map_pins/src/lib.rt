@@ -543,6 +543,17 @@ pub fn fits_first<B: Width, V: MapValue>(
     map.first_fit(window, count)
 }
 
+/// A search for room cannot fail.
+pub fn fits_without_memory<B: Width, V: MapValue>(
+    map: &IntervalMap<B, V>,
+    window: Interval<B>,
+    count: B::Output,
+) -> Option<Interval<B>>
+    requires { 0 < B.Output.size count }
+{
+    map.first_fit(window, count).unwrap()
+}
+
 /// A number is copied without fail.
 pub fn copy_number(value: &i32) -> i32
     ensures { result ≡ value.now }
@@ -569,4 +580,63 @@ pub fn copy_missing(value: &Option<String>) -> Option<String>
     requires { value.now ≡ None }
 {
     value.try_copy().unwrap()
+}
+
+#[cfg(test)]
+mod tests {
+    use super::*;
+    use intervallum::interval::Interval;
+    use intervallum::ops::Range;
+    use std::alloc::AllocError;
+    use std::test::Fail;
+
+    #[derive(Clone, Copy, PartialEq, Eq, Debug)]
+    enum Owner {
+        Kernel,
+        User(u32),
+    }
+
+    impl MapValue for Owner {
+        fn try_copy(&self) -> Result<Owner, AllocError> {
+            Ok(*self)
+        }
+    }
+
+    #[test]
+    fn owners(rt: HostRuntime) -> Result<(), Fail> {
+        let mut owners: IntervalMap<u32, Owner> = IntervalMap::empty(rt.alloc());
+        owners.insert(Interval::new(0, 9), Owner::User(1))?;
+        owners.insert(Interval::new(3, 4), Owner::Kernel)?;
+        assert!(rt;
+            owners.get(&5) == Some(&Owner::User(1)) && owners.get(&4) == Some(&Owner::Kernel)
+        );
+        let names = owners.overlapping(Interval::new(4, 5));
+        assert_eq!(rt; names.len(), 2);
+        Ok(())
+    }
+
+    #[test]
+    fn writes_and_cuts(rt: HostRuntime) -> Result<(), Fail> {
+        let mut owners: IntervalMap<i32, u32> = IntervalMap::empty(rt.alloc());
+        owners.insert(Interval::new(1, 9), 7)?;
+        owners.insert(Interval::new(4, 5), 8)?;
+        assert_eq!(rt; owners.interval_count(), 3);
+        assert!(rt;
+            owners.get(&3) == Some(&7) && owners.get(&4) == Some(&8) && owners.get(&6) == Some(&7)
+        );
+        owners.insert(Interval::new(4, 5), 7)?;
+        assert_eq!(rt; owners.interval_count(), 1);
+        owners.remove(Interval::new(3, 3))?;
+        assert!(rt; owners.get(&3).is_none());
+        match owners.get_run(8) {
+            Some((run, value)) => assert!(rt; run == Interval::new(4, 9) && *value == 7),
+            None => assert!(rt; false),
+        }
+        owners.insert(Interval::new(0, 3), 7)?;
+        let mut other: IntervalMap<i32, u32> = IntervalMap::empty(rt.alloc());
+        other.insert(Interval::new(0, 9), 7)?;
+        assert!(rt; owners == other);
+        assert_eq!(rt; owners.keys()?.interval_count(), 1);
+        Ok(())
+    }
 }

@@ -8,12 +8,16 @@ use Rattle.ivl_rules.specs.declared.rules.Rule.{Rule}
 use Rattle.ivl_network.specs.Costs.{AreRulesCounted}
 use Rattle.ivl_network.specs.Network.{AreNarrowedTo, AreRuleNarrowings, RulesState, work_of_rules}
 use Rattle.ivl_network.proofs.Costs.{counted_more, counted_none}
-use Rattle.ivl_network.proofs.Narrowings.{more_narrowings, no_narrowings}
+use Rattle.ivl_network.specs.Settled.{KeepsSettled}
+use Rattle.ivl_network.proofs.Narrowings.{more_narrowings, narrowings_keep, no_narrowings}
+use Rattle.ivl_network.proofs.Standing.{kept_more, kept_none}
 
 pub record HasMade (whole : ℤ × ℤ) (budget left : ℕ) (old new : RulesState) : Type 0 where
   pub rules : new.rules ≡ old.rules
   pub kept_count : length new.domains ≡ length old.domains
   pub marked : new.marked ≡ old.marked
+  pub were_settled : new.were_settled ≡ old.were_settled
+  pub stays : KeepsSettled old.rules (set_at old.domains) (set_at new.domains) old.settled new.settled
   pub by : List Rule
   pub cost : ℕ
   pub counted : AreRulesCounted old.rules by cost old.domains new.domains
@@ -27,6 +31,8 @@ made_none whole budget old = record {
   rules = refl;
   kept_count = refl;
   marked = refl;
+  were_settled = refl;
+  stays = kept_none old;
   by = [];
   cost = 0;
   counted = counted_none old.rules old.domains;
@@ -37,14 +43,19 @@ made_none whole budget old = record {
 
 -- one more narrowing
 pub made_more : (whole : ℤ × ℤ) (budget left left' : ℕ) (old mid new : RulesState) (c : Rule) (cost : ℕ) → HasMade whole budget left old mid
-    → new.rules ≡ mid.rules → length new.domains ≡ length mid.domains → new.marked ≡ mid.marked
+    → new.rules ≡ mid.rules → length new.domains ≡ length mid.domains → new.marked ≡ mid.marked → new.were_settled ≡ mid.were_settled
+    → KeepsSettled mid.rules (set_at mid.domains) (set_at new.domains) mid.settled new.settled
     → cost ≤ left → left' ≡ left - cost → AreRulesCounted mid.rules (c ∷ []) cost mid.domains new.domains
     → AreRuleNarrowings mid.rules 1 (set_at mid.domains) (set_at new.domains) → 1 + work_of_rules whole new ≤ work_of_rules whole mid
     → HasMade whole budget left' old new
-made_more whole budget left left' old mid new c cost h rules kept_count marked low less counted narrowed fewer = record {
+made_more whole budget left left' old mid new c cost h rules kept_count marked were stays low less counted narrowed fewer = record {
   rules = rules ∙ h.rules;
   kept_count = kept_count ∙ h.kept_count;
   marked = marked ∙ h.marked;
+  were_settled = were ∙ h.were_settled;
+  stays = kept_more old.rules (set_at old.domains) (set_at mid.domains) (set_at new.domains) old.settled mid.settled new.settled
+      (narrowings_keep old.rules (length h.by) old.domains mid.domains h.narrowed).within (narrowings_keep mid.rules 1 mid.domains new.domains narrowed).within
+      h.stays (subst (λ cs. KeepsSettled cs (set_at mid.domains) (set_at new.domains) mid.settled new.settled) h.rules stays);
   by = h.by ++ c ∷ [];
   cost = h.cost + cost;
   counted = counted_more old.rules h.by c h.cost cost old.domains mid.domains new.domains h.counted

@@ -14,6 +14,7 @@ pub mod Points
 pub mod Queues
 pub mod Reverting
 pub mod Settled
+pub mod Standing
 pub mod Staying
 pub mod Trails
 pub mod Work

@@ -137,6 +137,7 @@ dropped_marks marks marks' trail trail' now n e (inr same) =
 
 -- ---- the states
 
-pub state_is : (d d' : List (List (ℤ × ℤ))) (c c' : List Rule) (f f' : List Bool) (m m' : List RulesPast) → d ≡ d' → c ≡ c' → f ≡ f' → m ≡ m'
-    → ◌≡◌ {A = RulesState} (record { domains = d; rules = c; settled = f; marked = m }) (record { domains = d'; rules = c'; settled = f'; marked = m' })
-state_is d d' c c' f f' m m' of_domains of_rules of_flags of_marks = rw (of_domains, of_rules, of_flags, of_marks) refl
+pub state_is : (d d' : List (List (ℤ × ℤ))) (c c' : List Rule) (f f' : List Bool) (m m' : List RulesPast) (w w' : List Bool) → d ≡ d' → c ≡ c' → f ≡ f' → m ≡ m' → w ≡ w'
+    → ◌≡◌ {A = RulesState} (record { domains = d; rules = c; settled = f; marked = m; were_settled = w })
+    (record { domains = d'; rules = c'; settled = f'; marked = m'; were_settled = w' })
+state_is d d' c c' f f' m m' w w' of_domains of_rules of_flags of_marks of_were = rw (of_domains, of_rules, of_flags, of_marks, of_were) refl

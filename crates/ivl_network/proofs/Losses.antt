@@ -14,9 +14,10 @@ use Rattle.ivl_store.specs.Settled.{AreLost, any_lost}
 use Rattle.ivl_store.proofs.Places.{after, is_none_of, kept_or, replaced-other}
 use Rattle.ivl_rules.specs.declared.rules.Rule.{Rule}
 use Rattle.ivl_rules.specs.declared.rules.Rule.TheVariants.{Sum, Shifted, AtMost, Differs}
-use Rattle.ivl_rules.specs.Rules.{AreDifferent, TakesOne, needs_singles, places}
+use Rattle.ivl_rules.specs.Rules.{AreDifferent, HasPointAt, NamesOf, NarrowedBy, TakesOne, needs_singles, places}
 use Rattle.ivl_rules.specs.NarrowedSets.{AreLeftAtPlaces}
 use Rattle.ivl_rules.proofs.Places.{lost_is}
+use Rattle.ivl_network.specs.Settled.{AreTold}
 
 -- a set that is made lies in the range
 pub made_in_range : (whole : ℤ × ℤ) (L : List (ℤ × ℤ)) (S : ℤ → Type 0) (made : Option (List (ℤ × ℤ))) → IsLeftOf whole L S made
@@ -93,3 +94,34 @@ one_lost rule i v old new single t left = record {
       | inl f ↦ false≢true (sym (nx (e ∙ f)) ∙ is_set i (places rule).x f)
       | inr f ↦ false≢true (sym (ny (e ∙ f)) ∙ is_set i (places rule).y f)
     ]
+
+-- ---- what is told was lost
+
+pub told_after : (whole : ℤ × ℤ) (rule : Rule) (old new : List (List (ℤ × ℤ))) (x y z : Option (List (ℤ × ℤ))) (lost : Lost)
+    → AreLeftAtPlaces whole (places rule) (HasPointAt rule (set_at old)) old x y z → lost.x ≡ is_some x → lost.y ≡ is_some y → lost.z ≡ is_some z
+    → ((i : ℕ) (v : ℤ) → set_at new i v ↔ NarrowedBy rule (set_at old) i v) → AreTold (places rule) lost (set_at old) (set_at new)
+told_after whole rule old new x y z lost left mx my mz narrowed = record {
+  at_x = (λ t within. false≢true (sym (mx ∙ none_made whole _ _ x left.at_x (supported (places rule).x (inl refl) within)) ∙ t));
+  at_y = (λ t within. false≢true (sym (my ∙ none_made whole _ _ y left.at_y (supported (places rule).y (inr (inl refl)) within)) ∙ t));
+  at_z = (λ t within. elim (cases_eq (places rule).y (places rule).z) [
+    | inl same ↦ false≢true (sym (mz ∙ ap (λ (o : Option (List (ℤ × ℤ))). is_some o) (left.z_is_y same)) ∙ t)
+    | inr other ↦ false≢true (sym (mz ∙ none_made whole _ _ z (left.at_z other) (supported (places rule).z (inr (inr refl)) within)) ∙ t)
+  ]);
+}
+  where
+    supported : (i : ℕ) → NamesOf rule i → IsSubset (set_at old i) (set_at new i) → IsSubset (set_at old i) (HasPointAt rule (set_at old) i)
+    supported i named within v h = ((narrowed i v).0 (within v h)).supported named
+
+pub one_told : (rule : Rule) (i : ℕ) (v : ℤ) (old new : ℕ → ℤ → Type 0) → TakesOne rule old i v → ((j : ℕ) (z : ℤ) → new j z ↔ (old j z × (j ≡ i → z ≢ v)))
+    → AreTold (places rule) (record { x = eqb i (places rule).x; y = eqb i (places rule).y; z = false }) old new
+one_told rule i v old new t left = record {
+  at_x = (λ e within. gone (places rule).x (is_one i (places rule).x e) within);
+  at_y = (λ e within. gone (places rule).y (is_one i (places rule).y e) within);
+  at_z = (λ e within. false≢true e);
+}
+  where
+    is_one : (j a : ℕ) → eqb j a ≡ true → j ≡ a
+    is_one j a e = grind (arith, nat_tests)
+
+    gone : (a : ℕ) → i ≡ a → IsSubset (old a) (new a) → ⊥
+    gone a e within = ((left a v).0 (within v (subst (λ j. old j v) e t.member))).1 (sym e) refl

@@ -1,11 +1,12 @@
 -- Whether all rules were settled at the marks of a network.
 use Rattle.std.proofs.Common.{◌≡◌, ◌∙◌, ℕ, ◌<◌, inl, inr, ap, arith, get_or, length, List, [], ◌∷◌, ◌++◌, Bool, true, false, refl, subst, sym, take}
-use Rattle.std.specs.Prelude.{ℤ, map, not}
+use Rattle.std.specs.Prelude.{◌==◌, ◌↔◌, ℤ, IsTrue, map, not}
 use Rattle.ivl_laws.specs.Families.{set_at}
 use Rattle.ivl_network.specs.Settled.{claimed_flags}
 use Rattle.ivl_network.proofs.Settled.{claimed_length, claimed_settled}
 use Rattle.std.proofs.Math.ListN.{get_or-append}
-use Rattle.std.proofs.lemmas.Bool.{cases_eq}
+use Rattle.std.proofs.lemmas.Bool.{cases_eq, false≢true}
+use Rattle.std.proofs.lemmas.Bool.Decides.{nat_tests}
 use Rattle.std.proofs.lemmas.List.{get_or-map, get_or_push, length-map, length-take, length_push}
 use Rattle.ivl_rules.specs.declared.rules.Rule.{Rule}
 use Rattle.ivl_network.specs.declared.network.change.Change.{Change}
@@ -74,3 +75,14 @@ sound_claimed claims domains rules flags s = record {
   present = s.present;
   settled = claimed_settled claims rules flags (set_at domains) s.settled;
 }
+
+-- no flag is left unset
+pub none_left : (empty : Bool) (count : ℕ) → IsTrue empty ↔ (count ≡ 0) → empty ≡ (count == 0)
+none_left true count e = is_zero count (e.0 refl)
+  where
+    is_zero : (n : ℕ) → n ≡ 0 → true ≡ (n == 0)
+    is_zero n z = grind (arith, nat_tests)
+none_left false count e = is_some count (λ z. false≢true (e.1 z))
+  where
+    is_some : (n : ℕ) → (n ≡ 0 → ⊥) → false ≡ (n == 0)
+    is_some n z = grind (arith, nat_tests)

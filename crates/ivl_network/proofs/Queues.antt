@@ -9,6 +9,7 @@ use Rattle.std.proofs.lemmas.List.Sums.{count_by-le-length, sum_by_push, sum_by-
 use Rattle.ivl_network.specs.declared.network.queue.Queue.{Queue}
 use Rattle.ivl_network.specs.Queue.{IsLastNamingRule, IsListed, IsListedAt, IsRuleQueue, Removes, times_in, unsettled_count, waits}
 use Rattle.ivl_network.specs.Families.{IsFixedBy}
+use Rattle.ivl_network.proofs.Indexes.{listed_there}
 use Rattle.ivl_network.specs.Settled.{AreClearedListed, AreClearedRules, StillDiffers}
 use Rattle.ivl_rules.specs.Rules.{NamesOf, needs_singles}
 use Rattle.ivl_rules.specs.declared.rules.Rule.{Rule}
@@ -225,6 +226,7 @@ pub record WokenSoFar (singles : Bool) (rules : List Rule) (variable : ℕ) (Sta
   pub only_cleared : (k : ℕ) → get_or after k false ≡ true → get_or before k false ≡ true
   pub left : (k : ℕ) (d : Rule) → place ≤ 4 * k → k < length rules → get_or after k false ≡ true → IsListed singles variable (get_or rules k d)
       → Stays (get_or rules k d)
+  pub others : (k : ℕ) (d : Rule) → k < length rules → get_or before k false ≡ true → ¬ (NamesOf (get_or rules k d) variable) → get_or after k false ≡ true
 
 pub none_woken : (s : Bool) (rules : List Rule) (variable : ℕ) (Stays : Rule → Type 0) (flags : List Bool) (place : ℕ) → IsLastNamingRule s rules variable (length rules) place
     → WokenSoFar s rules variable Stays flags flags place
@@ -234,6 +236,7 @@ none_woken s rules variable Stays flags place last = record {
   same_count = refl;
   only_cleared = (λ k m. m);
   left = (λ k d from lt m listed. absurd (last.none k d from lt listed));
+  others = (λ k d lt m not_named. m);
 }
 
 -- a flag at this place that stays
@@ -253,6 +256,7 @@ one_left s rules variable Stays before after place next so_far pos stays last = 
       | inr above ↦ so_far.left k d (omega (arith, above, ne)) lt m is
     ]
   ]);
+  others = so_far.others;
 }
 
 -- a flag at this place that is cleared
@@ -266,6 +270,11 @@ one_woken s rules variable Stays before after place next so_far pos within =
       same_count = length-set after (place / 4) false ∙ so_far.same_count;
       only_cleared = (λ k m. so_far.only_cleared k (was k m));
       left = (λ k d from lt m. so_far.left k d from lt (was k m));
+      others = (λ k d lt m other. elim (cases_eq k (place / 4)) [
+        | inl e ↦ absurd (other (subst (λ j. NamesOf (get_or rules j d) variable) (sym e)
+            (listed_there s (place / 4) variable place _ (so_far.names (place / 4) d pos (omega arith) (omega arith))).0))
+        | inr ne ↦ get_or-set_other after (place / 4) k false false ne ∙ so_far.others k d lt m other
+      ]);
     }) pos (λ d m. absurd (false≢true (sym (get_or-set_same after (place / 4) false false within) ∙ m)))
   where
     was : (k : ℕ) → get_or (set after (place / 4) false) k false ≡ true → get_or after k false ≡ true
@@ -280,6 +289,7 @@ all_woken s rules variable Stays before after place so_far end = record {
   same_count = so_far.same_count;
   only_cleared = so_far.only_cleared;
   left = (λ k d lt m. so_far.left k d (omega (arith, end)) lt m);
+  others = so_far.others;
 }
 
 -- a list in which all stay
@@ -289,6 +299,7 @@ list_left s rules variable Stays flags stays = record {
   same_count = refl;
   only_cleared = (λ k m. m);
   left = (λ k d lt m is. stays (get_or rules k d));
+  others = (λ k d lt m other. m);
 }
 
 pub list_weaker : (s : Bool) (rules : List Rule) (variable : ℕ) (Stays Stays' : Rule → Type 0) (before after : List Bool) → ((rule : Rule) → Stays rule → Stays' rule)
@@ -297,6 +308,7 @@ list_weaker s rules variable Stays Stays' before after weaker cleared = record {
   same_count = cleared.same_count;
   only_cleared = cleared.only_cleared;
   left = (λ k d lt m is. weaker (get_or rules k d) (cleared.left k d lt m is));
+  others = cleared.others;
 }
 
 -- both lists
@@ -309,6 +321,7 @@ lists_woken rules variable changed only_lost alone sets before mid after t other
   kept = (λ f. absurd (false≢true (sym f ∙ t)));
   only_cleared = (λ k m. others.only_cleared k (singles.only_cleared k m));
   apart = (λ _ k d lt m named. of_kind k d lt m named (needs_singles (get_or rules k d)) refl);
+  others = (λ k d lt m other. singles.others k d lt (others.others k d lt m other) other);
 }
   where
     of_kind : (k : ℕ) (d : Rule) → k < length rules → get_or after k false ≡ true → NamesOf (get_or rules k d) variable → (s : Bool) → needs_singles (get_or rules k d) ≡ s

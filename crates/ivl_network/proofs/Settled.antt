@@ -198,6 +198,7 @@ claimed_cleared false rules i sets before after a = record {
   kept = (λ e. absurd (false≢true (sym e)));
   only_cleared = (λ k m. absurd (false≢true (sym (none_set after k) ∙ m)));
   apart = (λ _ k d lt m. absurd (false≢true (sym (none_set after k) ∙ m)));
+  others = (λ k d lt m other. absurd (false≢true (sym (none_set before k) ∙ m)));
 }
 
 pub claimed_settled : (claims : Bool) (rules : List Rule) (flags : List Bool) (sets : ℕ → ℤ → Type 0) → AreSettledRules rules flags sets

@@ -1,6 +1,7 @@
 -- What a network of rules keeps, and what its calls do to that.
---     RulesState      the domain of each variable, the rules so far, whether each of these is settled, so that it need not be looked at again, and what the
---         first two were at each mark
+--     RulesState      the domain of each variable, the rules so far, whether each of these is settled, so that it need not be looked at again, what the
+--         first two were at each mark, and whether all rules were settled at it
+--     IsUnsettledIn rules flags rule      the rule is one of those whose flag is not set
 --     IsWaiting network rule      the rule is one of those that are not settled
 --     work_of_rules whole network      how many narrowings are left at most, of which each removes a member or leaves one rule fewer to look at
 --     IsSoundRules domains rules flags      the rules name different variables, which have a domain; narrowing by one whose flag is set changes nothing
@@ -25,12 +26,16 @@ pub record RulesState : Type 0 where
   pub rules : List Rule
   pub settled : List Bool
   pub marked : List RulesPast
+  pub were_settled : List Bool
 
 abbrev pub work_of_rules : ℤ × ℤ → RulesState → ℕ
 work_of_rules whole network = total whole network.domains * (length network.rules + 1) + unsettled_count network.settled
 
+abbrev pub IsUnsettledIn : List Rule → List Bool → Rule → Type 0
+IsUnsettledIn rules flags rule = (k : ℕ) × (k < length rules) × (slice_index_or rules k rule ≡ rule) × (slice_index_or flags k true ≡ false)
+
 abbrev pub IsWaiting : RulesState → Rule → Type 0
-IsWaiting network rule = (k : ℕ) × (k < length network.rules) × (slice_index_or network.rules k rule ≡ rule) × (slice_index_or network.settled k true ≡ false)
+IsWaiting network rule = IsUnsettledIn network.rules network.settled rule
 
 pub record IsSoundRules (domains : List (List (ℤ × ℤ))) (rules : List Rule) (flags : List Bool) : Type 0 where
   pub different : All AreDifferent rules

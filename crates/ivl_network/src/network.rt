@@ -15,18 +15,17 @@
 //! assert_eq!(rt; network.settle(100)?, Settled::All);
 //! assert!(rt; network.has_empty());
 //! ```
-ghost use Rattle.std.specs.Prelude.{Contains, HoldsAt, take, ◌≡◌, ◌↔◌, ◌⊎◌, ◌<◌, ◌≤◌, ◌++◌, ◌+◌, ◌∷◌, [], ℕ, ℤ, List, All, Any, Err, IfErr, IfOk, IsTrue, MatchOption, OnErr, OnOk, Some, false, length, true};
+ghost use Rattle.std.specs.Prelude.{Contains, HoldsAt, take, ◌≡◌, ◌==◌, ◌↔◌, ◌<◌, ◌≤◌, ◌++◌, ◌∷◌, [], ℕ, All, Any, Err, IfOk, IsTrue, OnErr, OnOk, Some, false, length, true};
 ghost use Rattle.ivl_laws.specs.Families.{set_at};
 ghost use Rattle.ivl_laws.specs.Runs.{Covers, IsRunListIn};
 ghost use Rattle.ivl_laws.specs.Sets.{IsBetween, IsSubset};
 ghost use Rattle.ivl_store.specs.Narrowing.{first_unknown};
-ghost use Rattle.ivl_network.specs.Network.{AreNarrowedTo, AreRuleNarrowings, IsCutAt, IsEmptiedLast, IsRuleRequired, IsWaiting, work_of_rules};
+ghost use Rattle.ivl_network.specs.Network.{IsCutAt, IsRuleRequired};
 ghost use Rattle.ivl_network.specs.Queue.{unsettled_count};
+ghost use Rattle.ivl_network.specs.Settled.{KeepsSettled};
 ghost use Rattle.ivl_store.specs.Posts.{HasEmpty};
-ghost use Rattle.ivl_rules.specs.declared.rules.Rule.{Rule};
 ghost use Rattle.ivl_rules.specs.Rules.{AreDifferent, places as places_of};
-ghost use Rattle.ivl_network.specs.Costs.{AreRulesCounted, cost_of_rule as cost_of};
-ghost use Rattle.ivl_network.specs.Families.{ArePresent, IsCommonPoint, IsFixedBy, IsGreatestUnder, KeepsUnder};
+ghost use Rattle.ivl_network.specs.Families.{ArePresent};
 
 use intervallum::interval::Interval;
 use intervallum::interval_set::IntervalSet;
@@ -43,12 +42,13 @@ mod index;
 pub mod laws;
 mod narrowing;
 mod queue;
+mod settling;
 mod trail;
 
 use allowed::Allowed;
 use change::Change;
 use index::Index;
-use narrowing::{cost_if, narrow_logged, restrict_logged};
+use narrowing::restrict_logged;
 use queue::Queue;
 use trail::{clear_unmarked, is_logging, log_change, reserve_changes, revert_to};
 
@@ -59,16 +59,6 @@ pub enum Settled {
     All,
     /// The budget is used up, and some rule may narrow a domain further.
     Unfinished,
-}
-
-/// What one step of narrowing did.
-enum Step {
-    /// Nothing: no rule has to be looked at.
-    Settled,
-    /// Nothing: the next narrowing counts for more than is left.
-    Costly,
-    /// A narrowing, which counts for so much.
-    Made(u64),
 }
 
 /// Variables with a domain each, and the rules between them so far. A contract sees the two lists, and
@@ -107,7 +97,7 @@ impl<B: Width> Model for Network<B> {
 
     ghost Value = { RulesState };
 
-    ghost view = { λ n. record { domains = n.store; rules = n.rules.items; settled = n.queue.settled.items; marked = map (rules_past_at n.trail.items (record { domains = n.store; rules = n.rules.items })) n.marks.items } };
+    ghost view = { λ n. record { domains = n.store; rules = n.rules.items; settled = n.queue.settled.items; marked = map (rules_past_at n.trail.items (record { domains = n.store; rules = n.rules.items })) n.marks.items; were_settled = n.settled_at_marks.items } };
 
     ghost invariant = { λ n. IsSoundRules n.store n.rules.items n.queue.settled.items × IsSoundRuleTrail n.marks.items n.trail.items (record { domains = n.store; rules = n.rules.items }) × IsRuleIndex (length n.store) n.rules.items n.index × IsRuleQueue n.queue × AreSettledMarks n.settled_at_marks.items (map (rules_past_at n.trail.items (record { domains = n.store; rules = n.rules.items })) n.marks.items) };
 }
@@ -120,7 +110,8 @@ impl<B: Width> Network<B> {
     /// assert!(rt; network.domains().is_empty() && network.rules().is_empty());
     /// ```
     pub fn new(alloc: Global) -> Network<B>
-        ensures { result ≡ record { domains = []; rules = []; settled = []; marked = [] } }
+        // There is no variable, no rule and no mark.
+        ensures { result ≡ record { domains = []; rules = []; settled = []; marked = []; were_settled = [] } }
     {
         Network {
             store: Store::new(alloc, Vec::new(alloc)),
@@ -148,6 +139,7 @@ impl<B: Width> Network<B> {
     /// assert!(rt; network.domains().is_empty() && network.rules().is_empty());
     /// ```
     pub fn reserve(&mut self, variables: usize, rules: usize) -> Result<(), AllocError>
+        // The network is unchanged, whatever the result.
         ensures same { self.new ≡ self.old }
     {
         self.spares.make_room()?;
@@ -161,6 +153,8 @@ impl<B: Width> Network<B> {
 
     /// Returns the domains, in the order of the variables. `O(1)`, does not allocate.
     pub fn domains(&self) -> &[IntervalSet<B>]
+        // The slice has the domains, in the order of the variables. The runs of each ascend, lie in the range, and neither
+        // overlap nor touch.
         ensures same { result.now ≡ self.now.domains }
         ensures runs { All (IsRunListIn B.whole) self.now.domains }
     {
@@ -170,6 +164,8 @@ impl<B: Width> Network<B> {
     /// Returns the rules so far, in the order in which they were first required. `O(1)`, does not
     /// allocate.
     pub fn rules(&self) -> &[Rule]
+        // The slice has the rules, in the order in which they were first required. Each names different variables, which
+        // have a domain, and each is settled or not.
         ensures same { result.now ≡ self.now.rules }
         ensures different { All AreDifferent self.now.rules }
         ensures one_each { length self.now.settled ≡ length self.now.rules }
@@ -182,6 +178,7 @@ impl<B: Width> Network<B> {
     /// Returns true exactly when some domain is empty: then no point solves the rules. `O(1)`,
     /// does not allocate.
     pub fn has_empty(&self) -> bool
+        // True exactly when the domain of some variable has no run.
         ensures empty { IsTrue result ↔ Any (λ L. L ≡ []) self.now.domains }
         ensures variable { IsTrue result ↔ HasEmpty (length self.now.domains) (set_at self.now.domains) }
     {
@@ -200,8 +197,10 @@ impl<B: Width> Network<B> {
     /// assert!(rt; network.domains()[0] == IntervalSet::new(alloc, 3, 4)?);
     /// ```
     pub fn add_variable(&mut self, domain: IntervalSet<B>) -> Result<usize, AllocError>
+        // On success, the domain is added after the others, and the result is its index: the number of variables before.
+        // If it fails, the network is unchanged.
         ensures index { IfOk result (λ i. i ≡ length self.old.domains) }
-        ensures added { OnOk result (self.new ≡ record { domains = self.old.domains ++ domain ∷ []; rules = self.old.rules; settled = self.old.settled; marked = self.old.marked }) }
+        ensures added { OnOk result (self.new ≡ record { domains = self.old.domains ++ domain ∷ []; rules = self.old.rules; settled = self.old.settled; marked = self.old.marked; were_settled = self.old.were_settled }) }
         ensures err { OnErr result (self.new ≡ self.old) }
     {
         let is_kept = is_logging(&self.marks);
@@ -240,12 +239,16 @@ impl<B: Width> Network<B> {
     /// ```
     pub fn require(&mut self, rule: Rule) -> Result<(), StoreFault>
         requires { AreDifferent rule }
+        // The fault names the first index of the rule, in its order, without a domain, exactly when there is one. Domains
+        // and marks stay. On success, the rule is among the rules: where it was, and then nothing changes, or at the
+        // end, and then it is not settled. If it fails, the network is unchanged.
         ensures unknown { (i : ℕ) → (result ≡ Err (StoreFault.Variable i)) ↔ (first_unknown (length self.old.domains) (places_of rule) ≡ Some i) }
         ensures domains { self.new.domains ≡ self.old.domains }
         ensures marked { self.new.marked ≡ self.old.marked }
+        ensures were_settled { self.new.were_settled ≡ self.old.were_settled }
         ensures required { OnOk result (IsRuleRequired rule self.old.rules self.new.rules) }
         ensures known { Contains self.old.rules rule → self.new ≡ self.old }
-        ensures added { OnOk result (¬ (Contains self.old.rules rule) → self.new ≡ record { domains = self.old.domains; rules = self.old.rules ++ rule ∷ []; settled = self.old.settled ++ false ∷ []; marked = self.old.marked }) }
+        ensures added { OnOk result (¬ (Contains self.old.rules rule) → self.new ≡ record { domains = self.old.domains; rules = self.old.rules ++ rule ∷ []; settled = self.old.settled ++ false ∷ []; marked = self.old.marked; were_settled = self.old.were_settled }) }
         ensures refused { OnErr result (self.new ≡ self.old) }
     {
         if let Some(i) = rule.first_unknown(self.store.domains().len()) {
@@ -261,7 +264,7 @@ impl<B: Width> Network<B> {
     fn push(&mut self, rule: Rule) -> Result<(), AllocError>
         requires different { AreDifferent rule }
         requires present { ArePresent (length self.old.domains) rule }
-        ensures added { OnOk result (self.new ≡ record { domains = self.old.domains; rules = self.old.rules ++ rule ∷ []; settled = self.old.settled ++ false ∷ []; marked = self.old.marked }) }
+        ensures added { OnOk result (self.new ≡ record { domains = self.old.domains; rules = self.old.rules ++ rule ∷ []; settled = self.old.settled ++ false ∷ []; marked = self.old.marked; were_settled = self.old.were_settled }) }
         ensures refused { OnErr result (self.new ≡ self.old) }
     {
         let is_kept = is_logging(&self.marks);
@@ -291,13 +294,19 @@ impl<B: Width> Network<B> {
     /// assert!(rt; network.domains()[0] == IntervalSet::new(alloc, 5, 9)?);
     /// ```
     pub fn restrict(&mut self, variable: usize, allowed: &IntervalSet<B>) -> Result<(), StoreFault>
+        // The fault names the variable exactly when it has no domain. Rules and marks stay. On success, the domain keeps
+        // its members in the set, and the others keep theirs. Where it has no others, nothing changes, nor on an error.
         ensures unknown { (i : ℕ) → (result ≡ Err (StoreFault.Variable i)) ↔ ((i ≡ variable) × (length self.old.domains ≤ variable)) }
         ensures rules { self.new.rules ≡ self.old.rules }
         ensures marked { self.new.marked ≡ self.old.marked }
+        ensures were_settled { self.new.were_settled ≡ self.old.were_settled }
         ensures kept_count { length self.new.domains ≡ length self.old.domains }
         ensures cut { OnOk result (IsCutAt variable (Covers allowed.now) (set_at self.old.domains) (set_at self.new.domains)) }
         ensures same { IsSubset (set_at self.old.domains variable) (Covers allowed.now) → self.new ≡ self.old }
         ensures refused { OnErr result (self.new ≡ self.old) }
+
+        // A rule stays settled unless a variable that it names loses a member.
+        ensures stays { KeepsSettled self.old.rules (set_at self.old.domains) (set_at self.new.domains) self.old.settled self.new.settled }
     {
         self.cut(variable, allowed)
     }
@@ -322,13 +331,19 @@ impl<B: Width> Network<B> {
         variable: usize,
         allowed: Interval<B>,
     ) -> Result<(), StoreFault>
+        // The fault names the variable exactly when it has no domain. Rules and marks stay. On success, the domain keeps
+        // its members in the interval, and the others keep theirs. Where it has no others, nothing changes, nor on an error.
         ensures unknown { (i : ℕ) → (result ≡ Err (StoreFault.Variable i)) ↔ ((i ≡ variable) × (length self.old.domains ≤ variable)) }
         ensures rules { self.new.rules ≡ self.old.rules }
         ensures marked { self.new.marked ≡ self.old.marked }
+        ensures were_settled { self.new.were_settled ≡ self.old.were_settled }
         ensures kept_count { length self.new.domains ≡ length self.old.domains }
         ensures cut { OnOk result (IsCutAt variable (IsBetween allowed) (set_at self.old.domains) (set_at self.new.domains)) }
         ensures same { IsSubset (set_at self.old.domains variable) (IsBetween allowed) → self.new ≡ self.old }
         ensures refused { OnErr result (self.new ≡ self.old) }
+
+        // A rule stays settled unless a variable that it names loses a member.
+        ensures stays { KeepsSettled self.old.rules (set_at self.old.domains) (set_at self.new.domains) self.old.settled self.new.settled }
     {
         self.cut(variable, &allowed)
     }
@@ -338,9 +353,11 @@ impl<B: Width> Network<B> {
         ensures unknown { (i : ℕ) → (result ≡ Err (StoreFault.Variable i)) ↔ ((i ≡ variable) × (length self.old.domains ≤ variable)) }
         ensures rules { self.new.rules ≡ self.old.rules }
         ensures marked { self.new.marked ≡ self.old.marked }
+        ensures were_settled { self.new.were_settled ≡ self.old.were_settled }
         ensures kept_count { length self.new.domains ≡ length self.old.domains }
         ensures cut { OnOk result (IsCutAt variable (A.members allowed.now) (set_at self.old.domains) (set_at self.new.domains)) }
         ensures same { IsSubset (set_at self.old.domains variable) (A.members allowed.now) → self.new ≡ self.old }
+        ensures stays { KeepsSettled self.old.rules (set_at self.old.domains) (set_at self.new.domains) self.old.settled self.new.settled }
         ensures refused { OnErr result (self.new ≡ self.old) }
     {
         if variable >= self.store.domains().len() {
@@ -368,264 +385,6 @@ impl<B: Width> Network<B> {
         Ok(())
     }
 
-    /// Narrows the domains by the rules until nothing changes, or `budget` narrowings are made. Returns
-    /// [`Settled::All`] exactly if no rule is left that has to be looked at.
-    ///
-    /// Domains lose no member that is in a common solution of the rules. After [`Settled::All`] they are
-    /// the greatest ones, within those before the call, in which each rule supports every member. After
-    /// [`Settled::Unfinished`] another call goes on.
-    ///
-    /// A rule whose domains did not change since it narrowed them is not counted, nor is an `AtMost` or a
-    /// `Differs` that takes nothing from them: each narrowing that counts removes a member, or leaves one
-    /// rule fewer to look at. The rules are looked at in rounds, and one that has to be looked at again
-    /// waits for the next; one that alone names a variable may wait until no other does.
-    /// Costs its narrowings, `O(1)` beside each, and for each domain that changes a pass over the rules that
-    /// name its variable. Rules in a circle may take a member or two at a time, and then need as many
-    /// narrowings as there are members: the budget is what stops them.
-    ///
-    /// # Errors
-    ///
-    /// Fails only if allocation fails, with [`StoreFault::Memory`]. The network is then as the last
-    /// completed narrowing left it, and another call goes on.
-    ///
-    /// ```
-    /// // x + 1 <= y and y + 1 <= x, for x and y from 0 to 999
-    /// let mut network: Network<i32> = Network::new(alloc);
-    /// let x = network.add_variable(IntervalSet::new(alloc, 0, 999)?)?;
-    /// let y = network.add_variable(IntervalSet::new(alloc, 0, 999)?)?;
-    /// network.require(Rule::AtMost { x, y, by: 1 })?;
-    /// network.require(Rule::AtMost { x: y, y: x, by: 1 })?;
-    /// assert_eq!(rt; network.settle(2)?, Settled::Unfinished);
-    /// assert!(rt; !network.has_empty());
-    /// assert_eq!(rt; network.settle(10_000)?, Settled::All);
-    /// assert!(rt; network.has_empty());
-    /// ```
-    pub fn settle(&mut self, budget: u64) -> Result<Settled, StoreFault>
-        ensures memory { IfErr result (λ fault. fault ≡ StoreFault.Memory) }
-        ensures rules { self.new.rules ≡ self.old.rules }
-        ensures marked { self.new.marked ≡ self.old.marked }
-        ensures kept_count { length self.new.domains ≡ length self.old.domains }
-
-        // Domains only lose members, and no supported family and no common solution loses one.
-        ensures keeps { KeepsUnder self.old.rules self.old.domains self.new.domains }
-        ensures solutions { (point : ℕ → ℤ) → IsCommonPoint self.old.rules (set_at self.old.domains) point → IsCommonPoint self.old.rules (set_at self.new.domains) point }
-
-        // All: the domains are the greatest supported family.
-        ensures greatest { IfOk result (λ s. s ≡ Settled.All → IsGreatestUnder self.old.rules (set_at self.old.domains) (set_at self.new.domains)) }
-
-        // So many narrowings were made: all of the budget if some rule is left.
-        ensures made { IfOk result (λ s. (count : ℕ) × (count ≤ budget) × (s ≡ Settled.Unfinished → count ≡ budget)
-            × AreRuleNarrowings self.old.rules count (set_at self.old.domains) (set_at self.new.domains)) }
-        ensures made_before { OnErr result ((count : ℕ) × (count < budget) × AreRuleNarrowings self.old.rules count (set_at self.old.domains) (set_at self.new.domains)) }
-
-        // No narrowing is made in vain: so many fewer are left.
-        ensures fewer { IfOk result (λ s. s ≡ Settled.Unfinished → budget + work_of_rules B.whole self.new ≤ work_of_rules B.whole self.old) }
-
-        // All exactly where no rule is left to look at, and so wherever the budget covers the work.
-        ensures exactly { IfOk result (λ s. s ≡ Settled.All ↔ unsettled_count self.new.settled ≡ 0) }
-        ensures enough { IfOk result (λ s. work_of_rules B.whole self.old ≤ budget → s ≡ Settled.All) }
-    {
-        self.narrow_up_to(budget, false)?;
-        Ok(self.reached())
-    }
-
-    /// Narrows the domains as [`Network::settle`] does, but no further once one of them is empty: no point
-    /// solves the rules then. [`Settled::Unfinished`] says that the budget is used up or that a domain is
-    /// empty; check with [`Network::has_empty`]. If a domain is empty before the call, nothing changes.
-    /// Costs what [`Network::settle`] costs.
-    ///
-    /// # Errors
-    ///
-    /// Those of [`Network::settle`].
-    ///
-    /// ```
-    /// // x + 1 <= y leaves x = 0 and y = 1, and y + 1 <= x leaves none of them
-    /// let mut network: Network<i32> = Network::new(alloc);
-    /// let x = network.add_variable(IntervalSet::new(alloc, 0, 1)?)?;
-    /// let y = network.add_variable(IntervalSet::new(alloc, 0, 1)?)?;
-    /// network.require(Rule::AtMost { x, y, by: 1 })?;
-    /// network.require(Rule::AtMost { x: y, y: x, by: 1 })?;
-    /// assert_eq!(rt; network.settle_unless_empty(100)?, Settled::Unfinished);
-    /// assert!(rt; network.has_empty());
-    /// ```
-    pub fn settle_unless_empty(&mut self, budget: u64) -> Result<Settled, StoreFault>
-        ensures memory { IfErr result (λ fault. fault ≡ StoreFault.Memory) }
-        ensures rules { self.new.rules ≡ self.old.rules }
-        ensures marked { self.new.marked ≡ self.old.marked }
-        ensures kept_count { length self.new.domains ≡ length self.old.domains }
-
-        // Domains only lose members, and no supported family and no common solution loses one.
-        ensures keeps { KeepsUnder self.old.rules self.old.domains self.new.domains }
-        ensures solutions { (point : ℕ → ℤ) → IsCommonPoint self.old.rules (set_at self.old.domains) point → IsCommonPoint self.old.rules (set_at self.new.domains) point }
-
-        // All: the domains are the greatest supported family, and no rule is left to look at.
-        ensures greatest { IfOk result (λ s. s ≡ Settled.All → IsGreatestUnder self.old.rules (set_at self.old.domains) (set_at self.new.domains)) }
-        ensures exactly { IfOk result (λ s. s ≡ Settled.All ↔ unsettled_count self.new.settled ≡ 0) }
-
-        // So many narrowings were made: all of the budget if some rule is left and no domain is empty, and none if one was.
-        ensures made { IfOk result (λ s. (count : ℕ) × (count ≤ budget) × (s ≡ Settled.Unfinished → (count ≡ budget) ⊎ Any (λ L. L ≡ []) self.new.domains)
-            × AreRuleNarrowings self.old.rules count (set_at self.old.domains) (set_at self.new.domains)) }
-        ensures made_before { OnErr result ((count : ℕ) × (count < budget) × AreRuleNarrowings self.old.rules count (set_at self.old.domains) (set_at self.new.domains)) }
-        ensures stops { Any (λ L. L ≡ []) self.old.domains → self.new ≡ self.old }
-
-        // All but the last of them left no domain empty.
-        ensures emptied { (self.new.domains ≡ self.old.domains) ⊎ ((count : ℕ) × (count < budget) × IsEmptiedLast self.old.rules count self.old.domains self.new.domains) }
-
-        // No narrowing is made in vain: so many fewer are left.
-        ensures fewer { IfOk result (λ s. s ≡ Settled.Unfinished → (budget + work_of_rules B.whole self.new ≤ work_of_rules B.whole self.old) ⊎ Any (λ L. L ≡ []) self.new.domains) }
-        ensures enough { IfOk result (λ s. work_of_rules B.whole self.old ≤ budget → (s ≡ Settled.All) ⊎ Any (λ L. L ≡ []) self.new.domains) }
-    {
-        self.narrow_up_to(budget, true)?;
-        Ok(self.reached())
-    }
-
-    /// Narrows by rules that are not settled until there is none, or so many narrowings are made, or if
-    /// it is to stop there, until a domain is empty.
-    fn narrow_up_to(&mut self, budget: u64, stops_at_empty: bool) -> Result<(), AllocError>
-        ensures rules { self.new.rules ≡ self.old.rules }
-        ensures marked { self.new.marked ≡ self.old.marked }
-        ensures kept_count { length self.new.domains ≡ length self.old.domains }
-        ensures made { OnOk result ((count : ℕ) × AreNarrowedTo B.whole self.old count self.new × (count ≤ budget)
-            × ((unsettled_count self.new.settled ≡ 0) ⊎ ((count ≡ budget) ⊎ ((stops_at_empty ≡ true) × Any (λ L. L ≡ []) self.new.domains)))) }
-        ensures made_before { OnErr result ((count : ℕ) × AreNarrowedTo B.whole self.old count self.new × (count < budget)) }
-        ensures stops { stops_at_empty ≡ true → Any (λ L. L ≡ []) self.old.domains → self.new ≡ self.old }
-        ensures emptied { stops_at_empty ≡ true → (self.new.domains ≡ self.old.domains) ⊎ ((count : ℕ) × (count < budget) × IsEmptiedLast self.old.rules count self.old.domains self.new.domains) }
-    {
-        for _ in 0..budget {
-            if stops_at_empty && self.has_empty() {
-                return Ok(());
-            }
-            if !self.narrow_next()? {
-                return Ok(());
-            }
-        }
-        Ok(())
-    }
-
-    /// Narrows the domains as [`Network::settle`] does, by narrowings that count for what they look at:
-    /// a sum counts for one, and for one more for each 256 pairs of runs of two of its three domains; a
-    /// rule of two variables for one, and for one more for each 256 runs of its domains. One that counts
-    /// for more than is left of the budget is not begun. Returns [`Settled::All`] exactly if no rule is
-    /// left that has to be looked at.
-    ///
-    /// After [`Settled::Unfinished`] another call goes on, if its budget covers the next narrowing. Costs
-    /// what [`Network::settle`] costs.
-    ///
-    /// # Errors
-    ///
-    /// Those of [`Network::settle`].
-    ///
-    /// ```
-    /// // x + y = z over ten runs each: three times a hundred pairs, so the narrowing counts for two
-    /// let evens: IntervalSet<i32> = [(0, 0), (2, 2), (4, 4), (6, 6), (8, 8), (10, 10), (12, 12), (14, 14), (16, 16), (18, 18)]
-    ///     .to_interval_set(alloc)?;
-    /// let mut network: Network<i32> = Network::new(alloc);
-    /// let x = network.add_variable(evens.try_clone()?)?;
-    /// let y = network.add_variable(evens.try_clone()?)?;
-    /// let z = network.add_variable(evens)?;
-    /// network.require(Rule::Sum(Constraint { x, y, z }))?;
-    /// assert_eq!(rt; network.settle_within(1)?, Settled::Unfinished);
-    /// assert_eq!(rt; network.settle_within(2)?, Settled::All);
-    /// ```
-    pub fn settle_within(&mut self, budget: u64) -> Result<Settled, StoreFault>
-        ensures memory { IfErr result (λ fault. fault ≡ StoreFault.Memory) }
-        ensures rules { self.new.rules ≡ self.old.rules }
-        ensures marked { self.new.marked ≡ self.old.marked }
-        ensures kept_count { length self.new.domains ≡ length self.old.domains }
-
-        // Domains only lose members, and no supported family and no common solution loses one.
-        ensures keeps { KeepsUnder self.old.rules self.old.domains self.new.domains }
-        ensures solutions { (point : ℕ → ℤ) → IsCommonPoint self.old.rules (set_at self.old.domains) point → IsCommonPoint self.old.rules (set_at self.new.domains) point }
-
-        // All: the domains are the greatest supported family, and no rule is left to look at.
-        ensures greatest { IfOk result (λ s. s ≡ Settled.All → IsGreatestUnder self.old.rules (set_at self.old.domains) (set_at self.new.domains)) }
-        ensures exactly { IfOk result (λ s. s ≡ Settled.All ↔ unsettled_count self.new.settled ≡ 0) }
-
-        // What was made counts for no more than the budget, also on an error. If some rule is left, one that is not settled counts for more than is left.
-        ensures made { IfOk result (λ s. (by : List Rule) × (cost : ℕ) × AreRulesCounted self.old.rules by cost self.old.domains self.new.domains × (cost ≤ budget)
-            × (s ≡ Settled.Unfinished → (next : Rule) × IsWaiting self.new next × (budget < cost + cost_of next self.new.domains))
-            × (length by + work_of_rules B.whole self.new ≤ work_of_rules B.whole self.old)) }
-        ensures made_before { OnErr result ((by : List Rule) × (cost : ℕ) × AreRulesCounted self.old.rules by cost self.old.domains self.new.domains × (cost ≤ budget)
-            × (length by + work_of_rules B.whole self.new ≤ work_of_rules B.whole self.old)) }
-    {
-        let mut left = budget;
-        loop {
-            match self.narrow_within(left, true)? {
-                Step::Settled => return Ok(Settled::All),
-                Step::Costly => return Ok(Settled::Unfinished),
-                Step::Made(cost) => left -= cost,
-            }
-        }
-    }
-
-    /// Narrows by one rule that is not settled. Returns false, and changes nothing, if all are.
-    fn narrow_next(&mut self) -> Result<bool, AllocError>
-        ensures rules { self.new.rules ≡ self.old.rules }
-        ensures marked { self.new.marked ≡ self.old.marked }
-        ensures kept_count { length self.new.domains ≡ length self.old.domains }
-        ensures refused { OnErr result (self.new ≡ self.old) }
-        ensures none { IfOk result (λ b. b ≡ false → (self.new ≡ self.old) × All (IsFixedBy (set_at self.old.domains)) self.old.rules) }
-        ensures done { IfOk result (λ b. b ≡ false → unsettled_count self.new.settled ≡ 0) }
-        ensures narrowed { IfOk result (λ b. b ≡ true → AreRuleNarrowings self.old.rules 1 (set_at self.old.domains) (set_at self.new.domains)) }
-        ensures fewer { IfOk result (λ b. b ≡ true → 1 + work_of_rules B.whole self.new ≤ work_of_rules B.whole self.old) }
-    {
-        match self.narrow_within(u64::MAX, false)? {
-            Step::Settled | Step::Costly => Ok(false),
-            Step::Made(_) => Ok(true),
-        }
-    }
-
-    /// Narrows by one rule that is not settled, if that counts for no more than is left, or is not counted.
-    /// Changes nothing if it counts for more, or if all are settled.
-    fn narrow_within(&mut self, left: u64, is_counted: bool) -> Result<Step, AllocError>
-        ensures rules { self.new.rules ≡ self.old.rules }
-        ensures marked { self.new.marked ≡ self.old.marked }
-        ensures kept_count { length self.new.domains ≡ length self.old.domains }
-        ensures refused { OnErr result (self.new ≡ self.old) }
-        ensures none { IfOk result (λ s. s ≡ Step.Settled → (self.new ≡ self.old) × All (IsFixedBy (set_at self.old.domains)) self.old.rules) }
-        ensures done { IfOk result (λ s. s ≡ Step.Settled ↔ unsettled_count self.old.settled ≡ 0) }
-        ensures costly { IfOk result (λ s. s ≡ Step.Costly → (self.new ≡ self.old) × (next : Rule) × IsWaiting self.old next × (left < cost_of next self.old.domains)) }
-        ensures below { IfOk result (λ s. s ≡ Step.Costly → left < u64.MAX) }
-        ensures counted { is_counted ≡ true → IfOk result (λ s. (cost : ℕ) → s ≡ Step.Made cost → (0 < cost) × (cost ≤ left) × (c : Rule) × AreRulesCounted self.old.rules (c ∷ []) cost self.old.domains self.new.domains) }
-        ensures narrowed { IfOk result (λ s. (cost : ℕ) → s ≡ Step.Made cost → AreRuleNarrowings self.old.rules 1 (set_at self.old.domains) (set_at self.new.domains)) }
-        ensures fewer { IfOk result (λ s. (cost : ℕ) → s ≡ Step.Made cost → 1 + work_of_rules B.whole self.new ≤ work_of_rules B.whole self.old) }
-    {
-        let Some(i) = self.queue.first() else {
-            return Ok(Step::Settled);
-        };
-        let rule = &self.rules[i];
-        let c = rule.places();
-        let cost = cost_if(is_counted, &self.store, &c);
-        if cost > left {
-            return Ok(Step::Costly);
-        }
-        reserve_changes(&mut self.trail, is_logging(&self.marks), 3)?;
-        let lost = narrow_logged(
-            &mut self.store,
-            &mut self.trail,
-            &mut self.places,
-            &mut self.spares,
-            &self.marks,
-            rule,
-            &c,
-        )?;
-        self.queue
-            .settle(i, lost, &c, &self.store, &self.rules, &self.index);
-        Ok(Step::Made(cost))
-    }
-
-    /// Whether all rules are settled.
-    fn reached(&self) -> Settled
-        ensures all { result ≡ Settled.All → All (IsFixedBy (set_at self.now.domains)) self.now.rules }
-        ensures exactly { result ≡ Settled.All ↔ unsettled_count self.now.settled ≡ 0 }
-    {
-        if self.queue.is_empty() {
-            Settled::All
-        } else {
-            Settled::Unfinished
-        }
-    }
-
     /// Marks the network as it is, and returns the index of the mark. From the first mark on the
     /// network keeps domains that are replaced, until the marks are undone or dropped: what a cut or a
     /// narrowing replaces, if it replaces a domain for the first time since the last mark. `O(1)`
@@ -647,8 +406,11 @@ impl<B: Width> Network<B> {
     /// assert!(rt; !network.undo_to(mark));
     /// ```
     pub fn mark(&mut self) -> Result<usize, AllocError>
+        // On success, the result is the number of marks before, and the domains, the rules, and whether all of these are
+        // settled are kept for the mark. If it fails, the network is unchanged.
         ensures index { IfOk result (λ mark. mark ≡ length self.old.marked) }
-        ensures marked { OnOk result (self.new ≡ record { domains = self.old.domains; rules = self.old.rules; settled = self.old.settled; marked = self.old.marked ++ (record { domains = self.old.domains; rules = self.old.rules }) ∷ [] }) }
+        ensures index_of_flag { IfOk result (λ mark. mark ≡ length self.old.were_settled) }
+        ensures marked { OnOk result (self.new ≡ record { domains = self.old.domains; rules = self.old.rules; settled = self.old.settled; marked = self.old.marked ++ (record { domains = self.old.domains; rules = self.old.rules }) ∷ []; were_settled = self.old.were_settled ++ (unsettled_count self.old.settled == 0) ∷ [] }) }
         ensures err { OnErr result (self.new ≡ self.old) }
     {
         let mark = self.marks.len();
@@ -685,10 +447,16 @@ impl<B: Width> Network<B> {
     /// assert_eq!(rt; network.settle(0)?, Settled::All);
     /// ```
     pub fn undo_to(&mut self, mark: usize) -> bool
+        // True exactly when there is such a mark; otherwise nothing changes. Domains and rules are then what they were at
+        // the mark, and only the marks before it are left.
         ensures told { IsTrue result ↔ (mark < length self.old.marked) }
         ensures none { result ≡ false → self.new ≡ self.old }
         ensures undone { result ≡ true → HoldsAt (λ past. (self.new.domains ≡ past.domains) × (self.new.rules ≡ past.rules)) self.old.marked mark }
         ensures marked { result ≡ true → self.new.marked ≡ take mark self.old.marked }
+        ensures were_settled { result ≡ true → self.new.were_settled ≡ take mark self.old.were_settled }
+
+        // If all rules were settled at the mark, all are.
+        ensures settled { result ≡ true → HoldsAt (λ were. were ≡ true → unsettled_count self.new.settled ≡ 0) self.old.were_settled mark }
     {
         if mark >= self.marks.len() {
             return false;
@@ -724,7 +492,8 @@ impl<B: Width> Network<B> {
     /// assert!(rt; !network.undo_to(mark) && network.domains().len() == 1);
     /// ```
     pub fn drop_marks(&mut self, mark: usize)
-        ensures { self.new ≡ record { domains = self.old.domains; rules = self.old.rules; settled = self.old.settled; marked = take mark self.old.marked } }
+        // Only the marks before this one are left. All else stays.
+        ensures { self.new ≡ record { domains = self.old.domains; rules = self.old.rules; settled = self.old.settled; marked = take mark self.old.marked; were_settled = take mark self.old.were_settled } }
     {
         self.marks.truncate(mark);
         self.settled_at_marks.truncate(mark);

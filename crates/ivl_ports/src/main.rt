@@ -9,6 +9,7 @@
 //! ```
 #![tactic(auto)]
 
+mod helps;
 mod ports;
 
 use ivl_lines::{Program, SessionFault, run};
@@ -18,11 +19,14 @@ use std::process::ExitCode;
 const HELP: &str = "\
 Hands out the ports from 1024 to 65535: reads one line at a time from standard input, and answers each.
 
-  take COUNT         takes the lowest COUNT consecutive free ports: [1024..1031], or none
-  give FIRST LAST    gives ports back: ok, or some of them are free, and then nothing changes
-  free               how many ports are free, and which
+  take COUNT               takes the lowest COUNT consecutive free ports: [1024..1031], or none
+  take COUNT at PORT       takes those from PORT on, or none if one of them is not free
+  take COUNT above PORT    takes the lowest COUNT consecutive free ports above PORT, or none
+  give FIRST LAST          gives ports back: ok, or some of them are free, and then nothing changes
+  free                     how many ports are free, and which
+  help, help COMMAND       the commands, or what one does
 
---version prints the version.
+A line that begins with # is a comment. --version prints the version.
 ";
 
 /// The lines of this program.

@@ -10,7 +10,8 @@ ghost use Rattle.ivl_lines.specs.Sets.{pairs_text};
 ghost use Rattle.ivl_lines.specs.Words.{words_between};
 ghost use Rattle.ivl_ports.specs.Answering.{AnswersLine, Shows};
 
-use ivl_allocator::{all_free, give, take};
+use crate::helps::write_help;
+use ivl_allocator::{Fault, all_free, give, is_comment, take, write_fault};
 use ivl_lines::{AnswersCommands, SessionFault, next_word, serve};
 use ivl_paged::PagedSet;
 use std::alloc::Global;
@@ -52,10 +53,12 @@ impl AnswersCommands for Ports {
         writer: &mut W,
     ) -> io::Result<()> {
         match name {
-            "take" => take(&mut self.free, LAST, words, writer),
-            "give" => give(&mut self.free, "ports", FIRST, LAST, words, writer),
+            "take" => take(&mut self.free, FIRST, LAST, LAST, words, writer),
+            "give" => give(&mut self.free, FIRST, LAST, words, writer),
             "free" => show(&self.free, words, writer),
-            _ => writer.write_all(b"error: write take COUNT, give FIRST LAST or free\n"),
+            "help" => write_help(writer, words),
+            _ if is_comment(name) => Ok(()),
+            _ => write_fault(writer, &Fault::Command(name)),
         }
     }
 }
@@ -97,7 +100,7 @@ fn show<W: Write>(free: &PagedSet<u64>, words: &str, writer: &mut W) -> io::Resu
         × Appends (W.contents writer.old) (W.contents writer.new) text) }
 {
     match next_word(words) {
-        Some(_) => writer.write_all(b"error: write free\n"),
+        Some(_) => write_fault(writer, &Fault::Form("free")),
         None => write_free(writer, free),
     }
 }

@@ -5,10 +5,11 @@
 --     Checks s words told      what `check` with these words tells: that all is safe, for which `i` it is, or why
 --         there is no answer
 --     Replies old name words told new      the same of each line, by its first word and the others
+--     told_command_line name told      the answer to a command by what it tells
 --     AnswersLine old line text new      the text that a line is answered with
 --     HasRanges s      `i` and `k` have ranges
 --     AnswersCommand old name words text new      the answer to a line by its command and the words after it
-use Rattle.std.specs.Prelude.{◌≡◌, ◌≢◌, ℕ, ℤ, List, [], bytes_eq, codes, MatchBool, None, Some, Result, Ok, Err}
+use Rattle.std.specs.Prelude.{◌≡◌, ◌≢◌, ℕ, ℤ, List, [], bytes_eq, codes, MatchBool, slice_index, ◌==◌, None, Some, Result, Ok, Err}
 use Rattle.ivl_laws.specs.Runs.{Covers, IsRunsOf}
 use Rattle.ivl_laws.specs.Sets.{IsSubset, Sums}
 use Rattle.ivl_lines.specs.Commands.{AnswersByCommand}
@@ -16,6 +17,7 @@ use Rattle.ivl_ranges.specs.declared.reply.Fault.{Fault}
 use Rattle.ivl_ranges.specs.declared.reply.Fault.TheVariants.{Command, Ranges, Length, Check, NoIndex, NoOffset, Memory}
 use Rattle.ivl_ranges.specs.declared.reply.Reply.{Reply}
 use Rattle.ivl_ranges.specs.declared.reply.Reply.TheVariants.{Done, Safe, SafeFor}
+use Rattle.ivl_ranges.specs.Helps.{range_help_line, unknown_range_command}
 use Rattle.ivl_ranges.specs.Indexes.{IsIndexOf, SafeIn}
 use Rattle.ivl_ranges.specs.Printed.{reply_line}
 use Rattle.ivl_ranges.specs.Ranges.{length_in, IsNoSet, IsSetOf}
@@ -65,8 +67,16 @@ Replies old name words told new =
     (MatchBool (bytes_eq name (codes "check")) (Checks old words told × (new ≡ old))
     ((told ≡ Err Command) × (new ≡ old)))))
 
+abbrev pub told_command_line : List ℕ → Result Reply Fault → List ℕ
+told_command_line name (Err Command) = unknown_range_command name
+told_command_line name told = reply_line told
+
+-- a comment begins with `#`, which is 35, and has no answer
 abbrev pub AnswersCommand : State → List ℕ → List (List ℕ) → List ℕ → State → Type 0
-AnswersCommand old name words text new = (told : Result Reply Fault) × Replies old name words told new × (text ≡ reply_line told)
+AnswersCommand old name words text new =
+    MatchBool (bytes_eq name (codes "help")) ((text ≡ range_help_line words) × (new ≡ old))
+    (MatchBool (slice_index name 0 == 35) ((text ≡ []) × (new ≡ old))
+    ((told : Result Reply Fault) × Replies old name words told new × (text ≡ told_command_line name told)))
 
 abbrev pub AnswersLine : State → List ℕ → List ℕ → State → Type 0
 AnswersLine old line text new = AnswersByCommand AnswersCommand old line text new

@@ -1,4 +1,5 @@
 pub mod Indexes
 pub mod Ranges
-pub mod Answering
 pub mod Printed
+pub mod Helps
+pub mod Answering

@@ -10,7 +10,7 @@ use Rattle.ivl_ranges.specs.declared.reply.Reply.{Reply}
 use Rattle.ivl_ranges.specs.declared.reply.Reply.TheVariants.{Done, Safe, SafeFor}
 
 abbrev pub fault_text : Fault → List ℕ
-fault_text Command = codes "write i RANGES, k RANGES, length NUMBER or check"
+fault_text Command = codes "unknown command"
 fault_text Ranges = codes "write ranges such as -1..1 5..5, with the lower end first"
 fault_text Length = codes "write length NUMBER, from 0 to 4294967295"
 fault_text Check = codes "write check"

@@ -6,6 +6,7 @@ ghost use Rattle.ivl_lines.specs.Commands.{no_memory};
 ghost use Rattle.ivl_lines.specs.Lines.{ended_lines_of, lines_of};
 ghost use Rattle.ivl_ranges.specs.Answering.{AnswersLine, State};
 
+use crate::helps::{is_comment, write_help};
 use crate::reply::write_told;
 use crate::state::Access;
 use ivl_lines::{AnswersCommands, SessionFault, serve};
@@ -31,7 +32,11 @@ impl AnswersCommands for Access {
         words: &str,
         writer: &mut W,
     ) -> io::Result<()> {
-        write_told(writer, &self.carry_out(name, words))
+        match name {
+            "help" => write_help(writer, words),
+            _ if is_comment(name) => Ok(()),
+            _ => write_told(writer, name, &self.carry_out(name, words)),
+        }
     }
 }
 

@@ -11,6 +11,7 @@
 
 mod access;
 mod engine;
+mod helps;
 mod reading;
 mod reply;
 mod state;
@@ -22,12 +23,13 @@ use std::process::ExitCode;
 const HELP: &str = "\
 Says whether every access a[i + k] is within bounds: reads one line at a time from standard input, and answers each.
 
-  i -1..1 5..5       the values that i may have: ranges, the lower end first, in any order
-  k -1..1 5..5       the values that k may have
-  length 10          the length of the array
-  check              safe; or the values of i that are safe for every k: safe for i in [1..7] alone, or safe for no i
+  i -1..1 5..5         the values that i may have: ranges, the lower end first, in any order
+  k -1..1 5..5         the values that k may have
+  length 10            the length of the array
+  check                safe; or the values of i that are safe for every k: safe for i in [1..7] alone, or safe for no i
+  help, help COMMAND   the commands, or what one does
 
---version prints the version.
+A line that begins with # is a comment. --version prints the version.
 ";
 
 /// The lines of this program.

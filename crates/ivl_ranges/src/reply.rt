@@ -1,8 +1,10 @@
 //! The answer to a line.
 ghost use Rattle.std.specs.Prelude.{◌≡◌, OnOk};
 ghost use Rattle.std.specs.Io.KnownBytes.{Appends};
+ghost use Rattle.ivl_ranges.specs.Answering.{told_command_line};
 ghost use Rattle.ivl_ranges.specs.Printed.{fault_text as text_of, reply_line};
 
+use crate::helps::write_unknown;
 use intervallum::interval_set::IntervalSet;
 use intervallum::ops::IsEmpty;
 use std::alloc::AllocError;
@@ -50,11 +52,16 @@ impl From<AllocError> for Fault {
     }
 }
 
-/// Writes the answer to a line.
-pub fn write_told<W: Write>(writer: &mut W, told: &Result<Reply, Fault>) -> io::Result<()>
-    ensures { OnOk result (Appends (W.contents writer.old) (W.contents writer.new) (reply_line told.now)) }
+/// Writes the answer to a line, given its first word.
+pub fn write_told<W: Write>(
+    writer: &mut W,
+    name: &str,
+    told: &Result<Reply, Fault>,
+) -> io::Result<()>
+    ensures { OnOk result (Appends (W.contents writer.old) (W.contents writer.new) (told_command_line name.now told.now)) }
 {
     match told {
+        Err(Fault::Command) => write_unknown(writer, name),
         Ok(Reply::Done) => writer.write_all(b"ok\n"),
         Ok(Reply::Safe) => writer.write_all(b"safe\n"),
         Ok(Reply::SafeFor(safe)) => write_safe_for(writer, safe),
@@ -83,7 +90,7 @@ fn fault_text(fault: Fault) -> &'static str
     ensures { result.now ≡ text_of fault }
 {
     match fault {
-        Fault::Command => "write i RANGES, k RANGES, length NUMBER or check",
+        Fault::Command => "unknown command",
         Fault::Ranges => "write ranges such as -1..1 5..5, with the lower end first",
         Fault::Length => "write length NUMBER, from 0 to 4294967295",
         Fault::Check => "write check",

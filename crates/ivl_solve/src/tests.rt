@@ -103,7 +103,7 @@ fn no_solution_is_known(rt: HostRuntime) {
 // A variable may come after the sums, and its domain may be empty or at the ends of the range.
 #[test]
 fn domains_as_they_are_given(rt: HostRuntime) {
-    let lines = "show\nvar x 20 30 1 9 5 12\nvar y 9 1\nshow\n";
+    let lines = "show\nvar x 20 30 1 9 5 12\nvar y\nshow\n";
     let answers = "ok\nok\nno solution\nx {[1..12][20..30]}\ny {}\nno solution\n";
     check_session(&rt, lines, answers);
     let lines = "var x -9223372036854775807 9223372036854775807\nshow\n";
@@ -112,7 +112,11 @@ fn domains_as_they_are_given(rt: HostRuntime) {
 }
 
 // A line that cannot be carried out, and its answer. `x` and `y` are [1..9] before it and after it.
-const BAD_LINES: [(&str, &str); 68] = [
+const BAD_LINES: [(&str, &str); 72] = [
+    ("var 3 1 9", "3 is a number"),
+    ("var -4", "-4 is a number"),
+    ("var z 9 1", "9 is above 1"),
+    ("cut x 1 2 9 3 5 4", "9 is above 3"),
     ("frob", "unknown command frob"),
     ("Var z", "unknown command Var"),
     ("var", "write var x l u l u .."),
@@ -247,14 +251,13 @@ fn rules(rt: HostRuntime) -> Result<(), Fail> {
     Ok(())
 }
 
-// Variables may have the names of commands, of signs and of numbers. A number before `=` is one all the same, which
-// `sum` does not take so.
+// Variables may have the names of commands and of signs. A number before `=` is one.
 #[test]
 fn rules_of_any_names(rt: HostRuntime) {
-    let lines = "var sum 0 9\nvar + 3 4\nvar <= 0 9\nvar 1 7 7\nsum + -2 <= +\nsum + 1 = <=\n\
-        + <= <= + 0\nsum sum 1 <=\nshow\n";
+    let lines = "var sum 0 9\nvar + 3 4\nvar <= 0 9\nvar one 7 7\nsum + -2 <= +\nsum + 1 = <=\n\
+        + <= <= + 0\nsum sum one <=\nshow\n";
     let answers = "ok\nok\nok\nok\nok\nok\nok\nno solution\n\
-        sum {}\n+ {}\n<= {}\n1 {}\nno solution\n";
+        sum {}\n+ {}\n<= {}\none {}\nno solution\n";
     check_session(&rt, lines, answers);
 }
 
@@ -336,13 +339,13 @@ fn a_limit_ends_a_search(rt: HostRuntime) {
         "var x 0 9999999999999\nvar y 0 9999999999999\nvar c 1 1\nlimit 0\nsum x c y\nsum y c x\nsolve\n\
         count\nlimit 100\nsolve 1\ngo on\nshow\n";
     let answers =
-        "ok\nok\nok\nok\nunfinished\nunfinished\nunfinished\ncount 0\nunfinished\nunfinished\nunfinished\n\
+        "ok\nok\nok\nok\nunfinished\nunfinished\nunfinished\ncount at least 0\nunfinished\nunfinished\nunfinished\n\
         unfinished\nx [100..9999999999900]\ny [99..9999999999899]\nc [1..1]\nunfinished\n";
     check_session(&rt, lines, answers);
     check_session(
         &rt,
         "var x 1 2\nlimit 0\nsolve\ncount\nshow\n",
-        "ok\nok\nunfinished\ncount 0\nunfinished\nx [1..2]\nok\n",
+        "ok\nok\nunfinished\ncount at least 0\nunfinished\nx [1..2]\nok\n",
     );
 }
 

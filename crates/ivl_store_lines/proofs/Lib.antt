@@ -1,5 +1,6 @@
 pub mod Ranges
 pub mod Requiring
+pub mod Refusing
 pub mod Relating
 pub mod RuleForms
 pub mod Printing

@@ -9,15 +9,15 @@ use Rattle.ivl_lines.specs.Lines.{words_of}
 use Rattle.ivl_store_lines.specs.Faults.{Told, no_text}
 use Rattle.ivl_store_lines.specs.Requests.{Asked, needs_list}
 use Rattle.ivl_store_lines.specs.RuleForms.{request_of, why_no_request}
-use Rattle.ivl_store_lines.specs.Solving.{State, Carries, fault_of}
+use Rattle.ivl_store_lines.specs.Solving.{State, Carries, IsTakenBack, fault_of}
 use Rattle.ivl_store_lines.specs.Printed.{told_line, IsReply}
 
--- carried out, or refused with its fault, or out of memory; only the first changes anything
+-- carried out, or refused with its fault, which changes nothing, or out of memory, and all is taken back
 abbrev pub AnswersAsked : State → Asked → List ℕ → State → Type 0
 AnswersAsked old asked text new =
     ((fault_of asked old ≡ None) × Carries asked old new × IsReply asked new text)
     ⊎ ((why : Told) × (fault_of asked old ≡ Some why) × (text ≡ told_line (Some why)) × (new ≡ old))
-    ⊎ ((text ≡ told_line None) × (new ≡ old))
+    ⊎ ((text ≡ told_line None) × IsTakenBack old new)
 
 -- no request, which is told unless the list of its pairs found no memory
 abbrev pub AnswersNoRequest : State → List ℕ → List (List ℕ) → List ℕ → State → Type 0

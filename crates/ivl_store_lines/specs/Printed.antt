@@ -10,6 +10,7 @@
 --     progress_text progress      how far the domains are narrowed: `ok` or `unfinished`
 use Rattle.std.specs.Prelude.{◌≡◌, ℕ, ℤ, List, [], ◌∷◌, ◌++◌, codes, get_or, if◌then◌else◌, Option, None, Some}
 use Rattle.std.specs.List.{list_any}
+use Rattle.std.specs.Fmt.{signed_decimal}
 use Rattle.ivl_lines.specs.Escapes.{escaped}
 use Rattle.ivl_search.specs.Points.{IsGreatestAt, IsLeastAt}
 use Rattle.ivl_lines.specs.Lines.{with_newline}
@@ -17,7 +18,7 @@ use Rattle.ivl_lines.specs.Sets.{pairs_text}
 use Rattle.ivl_store.specs.Posts.{has_no_run}
 use Rattle.ivl_store_lines.specs.declared.progress.Progress.{Progress}
 use Rattle.ivl_store_lines.specs.declared.progress.Progress.TheVariants.{Complete, Budget}
-use Rattle.ivl_store_lines.specs.Faults.{Told, no_text, no_command, no_form, no_number, out_of_range, unknown, defined, repeated}
+use Rattle.ivl_store_lines.specs.Faults.{Told, no_text, no_command, no_form, no_number, out_of_range, unknown, defined, repeated, numeral, crossed}
 use Rattle.ivl_store_lines.specs.Requests.{Asked, var, cut, sum, relate, different, limit, go_on, show, solve, count, least, greatest}
 use Rattle.ivl_store_lines.specs.Solving.{State, variable_named}
 use Rattle.ivl_store_lines.specs.Solved.{IsSolved, IsCounted, ShowsBest}
@@ -32,6 +33,8 @@ told_line (Some out_of_range) = with_newline (codes "error: out of range")
 told_line (Some (unknown name)) = codes "error: unknown variable " ++ with_newline (escaped name)
 told_line (Some (defined name)) = codes "error: " ++ escaped name ++ with_newline (codes " is defined already")
 told_line (Some (repeated name)) = codes "error: " ++ escaped name ++ with_newline (codes " is named twice")
+told_line (Some (numeral name)) = codes "error: " ++ escaped name ++ with_newline (codes " is a number")
+told_line (Some (crossed lower upper)) = codes "error: " ++ signed_decimal lower ++ (codes " is above " ++ with_newline (signed_decimal upper))
 
 abbrev pub domain_line : List ℕ → List (ℤ × ℤ) → List ℕ
 domain_line name domain = escaped name ++ (codes " " ++ with_newline (pairs_text domain))

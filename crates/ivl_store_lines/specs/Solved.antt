@@ -2,6 +2,7 @@
 --     point_line names point      a solution: the name and the number of each variable, with spaces between
 --     point_lines names points      a line for each solution
 --     end_line count end      whether the solutions found are all, by how many they are
+--     count_line count end      how many solutions there are, or so many at least where others may be
 --     HasNodes needed state      one node for each 500 of the limit are as many
 --     IsSolved most state text      the text shows solutions, none of them twice and no more than the nodes, and says how their search ended
 --     IsCounted state text      the text says how many solutions there are, no more than the nodes, and how their search ended
@@ -44,6 +45,12 @@ end_text count Nodes = codes "unfinished"
 abbrev pub end_line : ℕ → End → List ℕ
 end_line count end = with_newline (end_text count end)
 
+-- all that there are, or so many at least
+abbrev pub count_line : ℕ → End → List ℕ
+count_line count All = codes "count " ++ with_newline (decimal count)
+count_line count Solutions = codes "count at least " ++ with_newline (decimal count)
+count_line count Nodes = codes "count at least " ++ with_newline (decimal count)
+
 abbrev pub HasNodes : ℕ → State → Type 0
 HasNodes needed state = needed ≤ state.limit / 500
 
@@ -66,7 +73,7 @@ pub record IsCounted (state : State) (text : List ℕ) : Type 0 where
   pub full : end ≡ Solutions → length points ≡ 2 ^ 64 - 1
   pub known : HasEmptyDomain state → end ≡ All
   pub enough : HasNodes (nodes_enough domain_range state.rules state.domains) state → end ≢ Nodes
-  pub shown : text ≡ codes "count " ++ with_newline (decimal (length points)) ++ end_line (length points) end
+  pub shown : text ≡ count_line (length points) end ++ end_line (length points) end
 
 abbrev pub IsExtremeAt : Extreme → ℕ → (List ℤ → Type 0) → List ℤ → Type 0
 IsExtremeAt Least = λ variable solves point. IsLeastAt variable solves point

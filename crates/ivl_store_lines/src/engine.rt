@@ -76,12 +76,12 @@ pub fn session<R: Read, W: Write>(
     // All bytes were read, and what is written answers their lines.
     ensures end { OnOk result (IsAtEnd (R.remaining reader.new)) }
     ensures ok { OnOk result (IfSome (R.remaining reader.old) (λ bytes. (text : List ℕ) × (end : State)
-        × IsAnswered (AnswersOrLoses no_memory AnswersLine) (record { names = []; domains = []; rules = []; limit = 1000000; progress = Progress.Complete }) (lines_of bytes) text end
+        × IsAnswered (AnswersOrLoses no_memory AnswersLine) (record { names = []; domains = []; rules = []; settled = []; limit = 1000000; progress = Progress.Complete }) (lines_of bytes) text end
         × Appends (W.contents writer.old) (W.contents writer.new) text)) }
     // What is written answers the ended lines of the bytes that the reader gave.
     ensures read { IsErrOf result SessionFault.Read → (front : List ℕ) × (text : List ℕ) × (end : State)
         × Consumes (R.remaining reader.old) (R.remaining reader.new) front
-        × IsAnswered (AnswersOrLoses no_memory AnswersLine) (record { names = []; domains = []; rules = []; limit = 1000000; progress = Progress.Complete }) (ended_lines_of front) text end
+        × IsAnswered (AnswersOrLoses no_memory AnswersLine) (record { names = []; domains = []; rules = []; settled = []; limit = 1000000; progress = Progress.Complete }) (ended_lines_of front) text end
         × Appends (W.contents writer.old) (W.contents writer.new) text }
     // There was no memory to begin.
     ensures memory { IsErrOf result SessionFault.Memory → (reader.new ≡ reader.old) × (writer.new ≡ writer.old) }

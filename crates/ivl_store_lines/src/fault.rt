@@ -21,6 +21,10 @@ pub enum Fault<'a> {
     Defined(&'a str),
     /// The variable is named twice in a rule.
     Repeated(&'a str),
+    /// The name of a new variable is a number.
+    Numeral(&'a str),
+    /// The first bound of a pair is above the second.
+    Crossed(i64, i64),
     /// An allocation failed.
     Memory,
 }

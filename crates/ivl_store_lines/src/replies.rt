@@ -128,6 +128,8 @@ pub fn write_fault<W: Write>(writer: &mut W, fault: &Fault<'_>) -> io::Result<()
         Fault::Unknown(name) => writeln!(writer, "error: unknown variable {}", Escaped(name)),
         Fault::Defined(name) => writeln!(writer, "error: {} is defined already", Escaped(name)),
         Fault::Repeated(name) => writeln!(writer, "error: {} is named twice", Escaped(name)),
+        Fault::Numeral(name) => writeln!(writer, "error: {} is a number", Escaped(name)),
+        Fault::Crossed(lower, upper) => writeln!(writer, "error: {lower} is above {upper}"),
         Fault::Memory => writeln!(writer, "error: out of memory"),
     }
 }

@@ -1,14 +1,15 @@
 //! The variables by name, their domains, and the rules that hold between them.
-ghost use Rattle.std.specs.Prelude.{◌≡◌, ◌∷◌, ◌++◌, ◌↔◌, ◌<◌, ℕ, ℤ, List, [], Some, All, Any, IfErr, IfOk, IfSome, IsSome, IsTrue, None, Ok, OnErr, OnOk, get_or, length, map, option_map, string_bytes};
+ghost use Rattle.std.specs.Prelude.{◌≡◌, ◌∷◌, ◌++◌, ◌↔◌, ◌<◌, ℕ, ℤ, Bool, List, [], Some, All, Any, IfErr, IfOk, IfSome, IsSome, IsTrue, None, Ok, OnErr, OnOk, find, get_or, length, map, option_map, string_bytes};
 ghost use Rattle.ivl_laws.specs.Runs.{Covers, IsRunsOf};
 ghost use Rattle.ivl_laws.specs.Families.{set_at};
 ghost use Rattle.ivl_network.specs.Network.{IsCutAt};
+ghost use Rattle.ivl_network.specs.Settled.{KeepsSettled};
 ghost use Rattle.ivl_rules.specs.Rules.{AreDifferent};
 ghost use Rattle.ivl_lines.specs.Words.{words_between};
 ghost use Rattle.ivl_store_lines.specs.Faults.{told_of, unknown};
 ghost use Rattle.ivl_store_lines.specs.Required.{each_pair as pairs_of, related};
 ghost use Rattle.ivl_store_lines.specs.Requests.{asked_of, cut as cut_of, different as different_of, relate as relate_of, sum as sum_of, var as var_of};
-ghost use Rattle.ivl_store_lines.specs.Solving.{Adds, Carries, Cuts, Defines, Relates, Requires, Settles, fault_of, unknown_name, variable_named as index_in, variables_named as indexes_in, range_fault};
+ghost use Rattle.ivl_store_lines.specs.Solving.{Adds, Carries, Cuts, Defines, IsTakenBack, IsUndone, Relates, Requires, Settles, fault_of, unknown_name, variable_named as index_in, variables_named as indexes_in, is_crossed, pairs_fault};
 
 use crate::atomic::{require_atomically, restrict_atomically, settle_atomically};
 use crate::different::{each_pair, first_repeated};
@@ -19,7 +20,7 @@ use crate::request::Request;
 use indexmap::IndexSet;
 use intervallum::interval::Interval;
 use intervallum::interval_set::{IntervalSet, ToIntervalSet};
-use ivl_lines::next_word;
+use ivl_lines::{next_word, number_from};
 use ivl_network::network::Network;
 use ivl_rules::rules::Rule;
 use ivl_store::store::Constraint;
@@ -45,7 +46,7 @@ impl Model for Solver {
 
     ghost Value = { State };
 
-    ghost view = { λ s. record { names = map string_bytes s.names.keys; domains = s.network.domains; rules = s.network.rules; limit = s.limit; progress = s.progress } };
+    ghost view = { λ s. record { names = map string_bytes s.names.keys; domains = s.network.domains; rules = s.network.rules; settled = s.network.settled; limit = s.limit; progress = s.progress } };
 
     ghost invariant = { λ s. length s.names.keys ≡ length s.network.domains };
 }
@@ -54,7 +55,7 @@ impl Solver {
     /// Creates a solver without variables, with a limit of a million. Looks names up by hashes with
     /// these keys. Does not allocate.
     pub fn new(alloc: Global, keys: RandomState) -> Solver
-        ensures { result ≡ record { names = []; domains = []; rules = []; limit = 1000000; progress = Progress.Complete } }
+        ensures { result ≡ record { names = []; domains = []; rules = []; settled = []; limit = 1000000; progress = Progress.Complete } }
     {
         Solver {
             alloc,
@@ -70,12 +71,13 @@ impl Solver {
         self.alloc
     }
 
-    /// Carries out what a line asks for. A fault changes nothing.
+    /// Carries out what a line asks for. A fault changes nothing, but that rules which were not settled all may
+    /// have to be looked at anew where an allocation fails.
     pub fn carry_out<'a>(&mut self, request: Request<'a>) -> Result<(), Fault<'a>>
         ensures carried { OnOk result (Carries (asked_of request.entry) self.old self.new) }
         ensures no_fault { OnOk result (fault_of (asked_of request.entry) self.old ≡ None) }
         ensures fault { IfErr result (λ fault. told_of fault ≡ fault_of (asked_of request.entry) self.old) }
-        ensures refused { OnErr result (self.new ≡ self.old) }
+        ensures refused { IfErr result (λ fault. IsUndone (told_of fault) self.old self.new) }
     {
         match request {
             Request::Var(name, pairs) => self.define(name, &pairs),
@@ -161,10 +163,13 @@ impl Solver {
         ensures ok { OnOk result (Defines name.now pairs.now self.old self.new) }
         ensures no_fault { OnOk result (fault_of (var_of name.now pairs.now) self.old ≡ None) }
         ensures fault { IfErr result (λ fault. told_of fault ≡ fault_of (var_of name.now pairs.now) self.old) }
-        ensures err { OnErr result (self.new ≡ self.old) }
+        ensures refused { IfErr result (λ fault. IsUndone (told_of fault) self.old self.new) }
     {
         if self.index_of(name).is_some() {
             return Err(Fault::Defined(name));
+        }
+        if number_from(name).is_some() {
+            return Err(Fault::Numeral(name));
         }
         let domain = set_of(self.alloc, pairs)?;
         self.add(name, domain)?;
@@ -174,7 +179,7 @@ impl Solver {
     /// Adds a variable. If allocation fails, nothing changes.
     fn add(&mut self, name: &str, domain: IntervalSet<i64>) -> Result<(), AllocError>
         requires { index_in self.old.names name.now ≡ None }
-        ensures ok { OnOk result (self.new ≡ record { names = self.old.names ++ name.now ∷ []; domains = self.old.domains ++ domain ∷ []; rules = self.old.rules; limit = self.old.limit; progress = self.old.progress }) }
+        ensures ok { OnOk result (self.new ≡ record { names = self.old.names ++ name.now ∷ []; domains = self.old.domains ++ domain ∷ []; rules = self.old.rules; settled = self.old.settled; limit = self.old.limit; progress = self.old.progress }) }
         ensures err { OnErr result (self.new ≡ self.old) }
     {
         let count = self.names.len();
@@ -193,7 +198,7 @@ impl Solver {
         ensures ok { OnOk result (Cuts name.now pairs.now self.old self.new) }
         ensures no_fault { OnOk result (fault_of (cut_of name.now pairs.now) self.old ≡ None) }
         ensures fault { IfErr result (λ fault. told_of fault ≡ fault_of (cut_of name.now pairs.now) self.old) }
-        ensures refused { OnErr result (self.new ≡ self.old) }
+        ensures refused { IfErr result (λ fault. IsUndone (told_of fault) self.old self.new) }
     {
         let variable = self.known(name)?;
         let allowed = set_of(self.alloc, pairs)?;
@@ -206,7 +211,7 @@ impl Solver {
         ensures ok { OnOk result (Adds x.now y.now z.now self.old self.new) }
         ensures no_fault { OnOk result (fault_of (sum_of x.now y.now z.now) self.old ≡ None) }
         ensures fault { IfErr result (λ fault. told_of fault ≡ fault_of (sum_of x.now y.now z.now) self.old) }
-        ensures refused { OnErr result (self.new ≡ self.old) }
+        ensures refused { IfErr result (λ fault. IsUndone (told_of fault) self.old self.new) }
     {
         let sum = Constraint {
             x: self.known(x)?,
@@ -231,7 +236,7 @@ impl Solver {
         ensures ok { OnOk result (Relates relation x.now y.now by self.old self.new) }
         ensures no_fault { OnOk result (fault_of (relate_of relation x.now y.now by) self.old ≡ None) }
         ensures fault { IfErr result (λ fault. told_of fault ≡ fault_of (relate_of relation x.now y.now by) self.old) }
-        ensures refused { OnErr result (self.new ≡ self.old) }
+        ensures refused { IfErr result (λ fault. IsUndone (told_of fault) self.old self.new) }
     {
         let first = self.known(x)?;
         let second = self.known(y)?;
@@ -248,7 +253,7 @@ impl Solver {
         ensures ok { OnOk result (Requires (pairs_of (indexes_in self.old.names (words_between names.now))) self.old self.new) }
         ensures no_fault { OnOk result (fault_of (different_of (words_between names.now)) self.old ≡ None) }
         ensures fault { IfErr result (λ fault. told_of fault ≡ fault_of (different_of (words_between names.now)) self.old) }
-        ensures refused { OnErr result (self.new ≡ self.old) }
+        ensures refused { IfErr result (λ fault. IsUndone (told_of fault) self.old self.new) }
     {
         if let Some(name) = self.first_unknown(names) {
             return Err(Fault::Unknown(name));
@@ -313,35 +318,36 @@ impl Solver {
         self.names.get_index_of(name)
     }
 
-    /// Cuts a domain, and narrows all. If allocation fails, nothing changes.
+    /// Cuts a domain, and narrows all. If allocation fails, all is taken back.
     fn restrict(&mut self, variable: usize, allowed: &IntervalSet<i64>) -> Result<(), AllocError>
         ensures cut { OnOk result ((cut : List (List (ℤ × ℤ))) × IsCutAt variable (Covers allowed.now) (set_at self.old.domains) (set_at cut)
-            × Settles self.new.limit self.new.rules cut self.new.domains self.new.progress) }
+            × (flags : List Bool) × KeepsSettled self.old.rules (set_at self.old.domains) (set_at cut) self.old.settled flags
+            × Settles self.new.limit self.new.rules cut flags self.new.domains self.new.settled self.new.progress) }
         ensures others { (self.new.names ≡ self.old.names) × (self.new.rules ≡ self.old.rules) × (self.new.limit ≡ self.old.limit) }
-        ensures err { OnErr result (self.new ≡ self.old) }
+        ensures err { OnErr result (IsTakenBack self.old self.new) }
     {
         let progress = restrict_atomically(&mut self.network, variable, allowed, self.limit)?;
         self.progress = progress;
         Ok(())
     }
 
-    /// Adds rules, and narrows the domains. If allocation fails, nothing changes.
+    /// Adds rules, and narrows the domains. If allocation fails, all is taken back.
     fn require(&mut self, rules: &[Rule]) -> Result<(), AllocError>
         requires { All AreDifferent rules.now }
         ensures required { OnOk result (Requires rules.now self.old self.new) }
-        ensures err { OnErr result (self.new ≡ self.old) }
+        ensures err { OnErr result (IsTakenBack self.old self.new) }
     {
         let progress = require_atomically(&mut self.network, rules, self.limit)?;
         self.progress = progress;
         Ok(())
     }
 
-    /// Narrows the domains by the rules, within the limit. If allocation fails, nothing
-    /// changes.
+    /// Narrows the domains by the rules, within the limit. If allocation fails, all is
+    /// taken back.
     fn settle(&mut self) -> Result<(), AllocError>
-        ensures settled { OnOk result (Settles self.new.limit self.new.rules self.old.domains self.new.domains self.new.progress) }
+        ensures settled { OnOk result (Settles self.new.limit self.new.rules self.old.domains self.old.settled self.new.domains self.new.settled self.new.progress) }
         ensures others { (self.new.names ≡ self.old.names) × (self.new.rules ≡ self.old.rules) × (self.new.limit ≡ self.old.limit) }
-        ensures err { OnErr result (self.new ≡ self.old) }
+        ensures err { OnErr result (IsTakenBack self.old self.new) }
     {
         let progress = settle_atomically(&mut self.network, self.limit)?;
         self.progress = progress;
@@ -360,11 +366,11 @@ fn rule_of(relation: Relation, x: usize, y: usize, by: i64) -> Rule
     }
 }
 
-/// The union of the pairs; a reversed pair adds nothing.
+/// The union of the pairs, in none of which the first bound is above the second.
 fn set_of<'a>(alloc: Global, pairs: &[(i64, i64)]) -> Result<IntervalSet<i64>, Fault<'a>>
     ensures union { IfOk result (λ L. IsRunsOf L (Covers pairs.now)) }
-    ensures no_fault { OnOk result (range_fault pairs.now ≡ None) }
-    ensures fault { IfErr result (λ fault. told_of fault ≡ range_fault pairs.now) }
+    ensures no_fault { OnOk result (pairs_fault pairs.now ≡ None) }
+    ensures fault { IfErr result (λ fault. told_of fault ≡ pairs_fault pairs.now) }
 {
     if !pairs
         .iter()
@@ -372,5 +378,23 @@ fn set_of<'a>(alloc: Global, pairs: &[(i64, i64)]) -> Result<IntervalSet<i64>, F
     {
         return Err(Fault::Range);
     }
+    if let Some(pair) = first_crossed(pairs) {
+        return Err(Fault::Crossed(pair.0, pair.1));
+    }
     Ok(pairs.to_interval_set(alloc)?)
+}
+
+/// The first pair whose first bound is above the second.
+#[tactic(auto, using(crate::proofs::Ranges::crossed_first, crate::proofs::Ranges::crossed_later))]
+fn first_crossed(pairs: &[(i64, i64)]) -> Option<(i64, i64)>
+    ensures { result ≡ find is_crossed pairs.entry.now }
+{
+    let mut rest = pairs;
+    while let [pair, others @ ..] = rest {
+        if pair.0 > pair.1 {
+            return Some(*pair);
+        }
+        rest = others;
+    }
+    None
 }

@@ -188,11 +188,11 @@ cut_taken_back : rules_past_at {B = ℕ} {O = ℕ} (Domain 0 ((pos 0, pos 1) ∷
 cut_taken_back = refl
 
 -- what is left to do over one number: a rule to look at, and a member that each of two narrowings may take
-one_narrowing_is_left : work_of_rules (pos 0, pos 0) (record { domains = [] ∷ []; rules = before ∷ []; settled = false ∷ []; marked = [] }) ≡ 1
+one_narrowing_is_left : work_of_rules (pos 0, pos 0) (record { domains = [] ∷ []; rules = before ∷ []; settled = false ∷ []; marked = []; were_settled = [] }) ≡ 1
 unfolding count_from
 one_narrowing_is_left = refl
 
-two_for_a_member : work_of_rules (pos 0, pos 0) (record { domains = ((pos 0, pos 0) ∷ []) ∷ []; rules = before ∷ []; settled = false ∷ []; marked = [] }) ≡ 3
+two_for_a_member : work_of_rules (pos 0, pos 0) (record { domains = ((pos 0, pos 0) ∷ []) ∷ []; rules = before ∷ []; settled = false ∷ []; marked = []; were_settled = [] }) ≡ 3
 unfolding count_from
 two_for_a_member = refl
 

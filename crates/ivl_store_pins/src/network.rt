@@ -1,10 +1,10 @@
 //! What the calls of a network mean.
-ghost use Rattle.std.specs.Prelude.{◌≡◌, ◌≢◌, ◌↔◌, ◌⊎◌, ◌<◌, ◌≤◌, ◌+◌, ◌++◌, ◌∷◌, [], false, ℕ, ℤ, List, All, Any, Contains, IfOk, IsTrue, OnErr, OnOk, length};
+ghost use Rattle.std.specs.Prelude.{◌≡◌, ◌≢◌, ◌↔◌, ◌⊎◌, ◌<◌, ◌≤◌, ◌+◌, ◌++◌, ◌∷◌, [], false, ℕ, ℤ, List, All, Any, Contains, IfOk, IsTrue, OnErr, OnOk, length, HoldsAt, slice_index_or, true};
 ghost use Rattle.ivl_laws.specs.Families.{set_at};
 ghost use Rattle.ivl_laws.specs.Runs.{Covers};
 ghost use Rattle.ivl_laws.specs.Sets.{IsBetween};
 ghost use Rattle.ivl_rules.specs.declared.rules.Rule.{Rule};
-ghost use Rattle.ivl_rules.specs.Rules.{AreDifferent};
+ghost use Rattle.ivl_rules.specs.Rules.{AreDifferent, NamesOf};
 ghost use Rattle.ivl_network.specs.Costs.{AreRulesCounted, cost_of_rule};
 ghost use Rattle.ivl_network.specs.Families.{IsCommonPoint, IsGreatestUnder};
 ghost use Rattle.ivl_network.specs.Network.{IsEmptiedLast, IsRuleRequired, IsWaiting, work_of_rules};
@@ -23,7 +23,7 @@ pub fn network_of_one<B: Width>(
     alloc: Global,
     domain: IntervalSet<B>,
 ) -> Result<Network<B>, AllocError>
-    ensures { IfOk result (λ network. network ≡ record { domains = domain ∷ []; rules = []; settled = []; marked = [] }) }
+    ensures { IfOk result (λ network. network ≡ record { domains = domain ∷ []; rules = []; settled = []; marked = []; were_settled = [] }) }
 {
     let mut network = Network::new(alloc);
     network.add_variable(domain)?;
@@ -174,6 +174,27 @@ pub fn is_settled_within<B: Width>(
         Settled::All => Ok(true),
         Settled::Unfinished => Ok(false),
     }
+}
+
+/// Narrows within a budget that counts what narrowings look at: a rule that was settled is settled still, if no
+/// variable that it names has lost a member.
+pub fn settled_rules_stay<B: Width>(
+    network: &mut Network<B>,
+    budget: u64,
+) -> Result<Settled, StoreFault>
+    ensures { (k : ℕ) (d : Rule) → k < length network.old.rules → slice_index_or network.old.settled k false ≡ true
+        → ((i : ℕ) → NamesOf (slice_index_or network.old.rules k d) i → (v : ℤ) → set_at network.old.domains i v → set_at network.new.domains i v)
+        → slice_index_or network.new.settled k false ≡ true }
+{
+    network.settle_within(budget)
+}
+
+/// Takes a network back to a mark at which all rules were settled: all are.
+pub fn all_settled_again<B: Width>(network: &mut Network<B>, mark: usize) -> bool
+    requires { HoldsAt (λ were. were ≡ true) network.old.were_settled mark }
+    ensures { IsTrue result → unsettled_count network.new.settled ≡ 0 }
+{
+    network.undo_to(mark)
 }
 
 /// Marks a network, adds a domain, and takes it back: the domains and rules are as before.

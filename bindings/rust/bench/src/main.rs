@@ -4,7 +4,9 @@
 //! GREATEST_N`, prints one line per call: `name n ns_per_operation runs size`. With the argument `million`, prints the time of one
 //! union of two sets of a million runs, and the peak memory. With the argument `paged`, prints one line per edit or question of a
 //! set in pages, and of one in a list, at 1,000 to 1,000,000 runs: `name n ns_per_call answer`, and then one per operation of two
-//! of them: `name n ns_per_run answer`. With the arguments `store FILE`, prints the time of an instance of the domain store.
+//! of them: `name n ns_per_run answer`. With the argument `maps`, prints one line per call of the root's map at 1,000 to 1,000,000
+//! entries, and of a `BTreeMap` beside it: `name n ns_per_call answer`. With the arguments `store FILE`, prints the time of an instance of
+//! the domain store.
 //!
 //! Where the library has its feature `json`, and `--cfg json` says so, three calls of JSON are measured too.
 
@@ -17,6 +19,7 @@ mod inputs;
 #[cfg_attr(not(json), path = "no_json.rs")]
 mod json;
 mod many_runs;
+mod maps;
 mod measures;
 mod stores;
 mod timing;
@@ -59,6 +62,7 @@ fn print_all_answers() -> Result<()> {
     print_answers(100)?;
     many_runs::print_answers()?;
     whole_sets::print_answers()?;
+    maps::print_answers()?;
     stores::print_answers()
 }
 
@@ -73,9 +77,10 @@ fn main() -> Result<()> {
     match word(0) {
         None => print_all_answers(),
         Some("million") => fresh::print_million(),
+        Some("maps") => maps::print_times(),
         Some("paged") => print_paged_times(),
         Some("store") => stores::print_times(word(1).ok_or("give the file of an instance")?),
         Some("time") => print_times(word(1), word(2)),
-        Some(_) => Err("the arguments are: time SECONDS GREATEST_N, million, paged, or store FILE".into()),
+        Some(_) => Err("the arguments are: time SECONDS GREATEST_N, million, paged, maps, or store FILE".into()),
     }
 }

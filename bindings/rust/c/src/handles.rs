@@ -1,6 +1,8 @@
 //! What the calls of handles are made of: how a pointer is tested, a number, and an answer told. No function here has a loop.
+use super::solver::end_of;
 use intervallum::proved::ivl_buffers::pair::{Pair, PairI64, PairU64};
 use intervallum::proved::ivl_buffers::reading::{are_inside, set_of};
+use intervallum::proved::ivl_search::search::{End, Limits};
 use intervallum::proved::prelude::*;
 use intervallum::proved::{AllocError, Global};
 use intervallum::set::Piece;
@@ -81,7 +83,7 @@ pub unsafe fn free<H>(it: *mut H) {
 /// # Safety
 ///
 /// The place can be written.
-pub unsafe fn made_at<H>(place: *mut *mut H, make: impl FnOnce() -> Result<H, AllocError>) -> Told {
+pub unsafe fn made_at<H>(place: *mut *mut H, make: impl FnOnce() -> Result<H, i64>) -> Told {
     const { assert!(size_of::<H>() > 0) };
     let layout = Layout::new::<H>();
     let at = unsafe { alloc(layout) }.cast::<H>();
@@ -94,9 +96,9 @@ pub unsafe fn made_at<H>(place: *mut *mut H, make: impl FnOnce() -> Result<H, Al
             place.write(at);
             Ok(0)
         },
-        Err(AllocError) => unsafe {
+        Err(code) => unsafe {
             dealloc(at.cast(), layout);
-            Err(OUT_OF_MEMORY)
+            Err(code)
         },
     }
 }
@@ -138,8 +140,34 @@ pub fn inside<R: Pair>(pairs: &[R]) -> Result<&[R], i64> {
 }
 
 /// The set of the members of such a list.
+pub fn list_of_pairs<R: Pair>(pairs: &[R]) -> Result<IntervalSet<R::Bound>, AllocError> {
+    set_of(Global, pairs)
+}
+
+/// The same in pages.
 pub fn of_pairs<R: Pair>(pairs: &[R]) -> Result<Set<R::Bound>, AllocError> {
-    set_of(Global, pairs).and_then(Set::from_set)
+    list_of_pairs(pairs).and_then(Set::from_set)
+}
+
+/// How far a search goes, as C has it.
+#[repr(C)]
+pub struct SearchLimits {
+    solutions: u64,
+    nodes: u64,
+}
+
+/// The limits of a search: by themselves, any number of solutions in a million nodes.
+///
+/// # Safety
+///
+/// The pointer is null, or that of limits.
+pub unsafe fn limits_at(limits: *const SearchLimits) -> Limits {
+    let given = unsafe { limits.as_ref() };
+    let solutions = given.map_or(u64::MAX, |it| it.solutions);
+    Limits {
+        solutions: usize::try_from(solutions).unwrap_or(usize::MAX),
+        nodes: given.map_or(1_000_000, |it| it.nodes),
+    }
 }
 
 // ---- what is told
@@ -174,8 +202,19 @@ pub unsafe fn size_at(place: *mut u64, size: u64) -> Told {
     Ok(0)
 }
 
+/// A count up to the end of a search, and why it ended.
+///
+/// # Safety
+///
+/// The place can be written.
+pub unsafe fn counted_at(place: *mut u64, counted: Result<(usize, End), i64>) -> Told {
+    let (count, end) = counted?;
+    unsafe { place.write(count as u64) };
+    Ok(end_of(end))
+}
+
 /// A pair of a run.
-pub trait OfRun: Pair {
+pub trait OfRun: Pair<Bound: Width<Output = u64>> {
     fn of_run(run: Interval<Self::Bound>) -> Self {
         Self::of(run.lower(), run.upper())
     }

@@ -10,6 +10,8 @@ mod calls;
 #[rustfmt::skip]
 mod handle_calls;
 mod handles;
+mod memory;
+mod solver;
 
 use std::slice;
 

@@ -15,12 +15,15 @@ use crate::proved::ivl_lines::{Program, SessionFault, outcome};
 use crate::rattle::runtime::HostRuntime;
 use std::cell::RefCell;
 use std::fmt;
-use std::io::{self, Read, Write};
+use std::io::{self, IsTerminal, Read, Write};
 use std::process::ExitCode;
 use std::rc::Rc;
 
+mod compact;
 mod file;
 mod lock;
+mod states;
+mod terminal;
 mod words;
 
 pub use words::{BLOCKS, CALENDAR, PORTS, RANGES, RUN, SOLVE, Words};
@@ -49,6 +52,8 @@ enum Fault {
     Differs(u64, Vec<u8>),
     /// A line is longer than [`LINE`].
     Long,
+    /// The state cannot be written as lines of the program.
+    NoLines(String),
 }
 
 impl fmt::Display for Fault {
@@ -63,6 +68,7 @@ impl fmt::Display for Fault {
             Fault::Differs(number, line) => {
                 write!(to, "line {number}, `{}`, is not answered as it was", line.escape_ascii())
             }
+            Fault::NoLines(why) => write!(to, "the lines stay as they are: {why}"),
             Fault::Long => write!(to, "a line has more than {LINE} bytes, which are not kept"),
         }
     }
@@ -72,7 +78,7 @@ impl fmt::Display for Fault {
 struct Session {
     file: KeptFile,
     words: &'static Words,
-    input: io::BufReader<io::Stdin>,
+    input: terminal::Input,
     answer: Vec<u8>,
     line: Vec<u8>,
     given: usize,
@@ -144,10 +150,8 @@ impl Session {
 
     /// Reads a line of standard input, without its newline. Returns false at the end.
     fn read_line(&mut self) -> Result<bool, Fault> {
-        use io::BufRead;
         self.line.clear();
-        let count =
-            self.input.by_ref().take(LINE as u64 + 1).read_until(b'\n', &mut self.line).map_err(Fault::Input)?;
+        let count = self.input.read_line(&mut self.line, LINE as u64 + 1).map_err(Fault::Input)?;
         if self.line.last() == Some(&b'\n') {
             self.line.pop();
         } else if count > LINE {
@@ -212,21 +216,57 @@ fn checksum(text: &[u8]) -> u32 {
     text.iter().fold(0x811c_9dc5, |sum, byte| (sum ^ u32::from(*byte)).wrapping_mul(0x0100_0193))
 }
 
-/// Runs a program: with `--keep FILE` as a session whose lines are kept, and otherwise as its proved `main` does.
+/// Runs a program: with `--keep FILE` as a session whose lines are kept, and otherwise as its proved `main` does. At a terminal it
+/// asks for each line.
 pub fn main<P: Program>(proved: fn(HostRuntime) -> ExitCode, words: &'static Words) -> ExitCode {
     let arguments: Vec<_> = std::env::args_os().skip(1).collect();
     match arguments.as_slice() {
+        [] if io::stdin().is_terminal() => at_terminal::<P>(words),
+        [] => proved(HostRuntime),
+        [word] if word == "--help" || word == "--version" => proved(HostRuntime),
         [keep, path] if keep == "--keep" => kept::<P>(path.as_ref(), words),
-        [keep] if keep == "--keep" => {
-            eprintln!("{}: --keep needs the name of a file", P::NAME);
-            ExitCode::from(2)
+        [keep, path, compact] if keep == "--keep" && compact == "--compact" => compacted::<P>(path.as_ref(), words),
+        [compact, keep, path] if keep == "--keep" && compact == "--compact" => compacted::<P>(path.as_ref(), words),
+        [keep] if keep == "--keep" => misused::<P>("--keep needs the name of a file"),
+        [word, ..] if word == "--compact" => misused::<P>("--compact goes with --keep FILE"),
+        [.., word] => misused::<P>(&format!("there is no argument {}; --help lists the lines", word.to_string_lossy())),
+    }
+}
+
+/// Says what is wrong with the arguments.
+fn misused<P: Program>(why: &str) -> ExitCode {
+    eprintln!("{}: {why}", P::NAME);
+    ExitCode::from(2)
+}
+
+/// Answers the lines that a user writes at a terminal.
+fn at_terminal<P: Program>(words: &'static Words) -> ExitCode {
+    terminal::wrap(P::NAME);
+    terminal::greet(P::NAME, words, None);
+    let (mut lines, mut out) = (terminal::Lines::new(words.prompt), io::stdout().lock());
+    status::<P>(&P::session(&HostRuntime, &mut lines, &mut out))
+}
+
+/// Writes the state of a session that is kept as the fewest lines.
+fn compacted<P: Program>(path: &std::path::Path, words: &'static Words) -> ExitCode {
+    match compact::compact::<P>(path, words) {
+        Ok((before, after)) => {
+            eprintln!("{}: {}: {after} lines in place of {before}", P::NAME, path.display());
+            ExitCode::SUCCESS
         }
-        _ => proved(HostRuntime),
+        Err(fault) => {
+            eprintln!("{}: {}: {fault}", P::NAME, path.display());
+            ExitCode::from(1)
+        }
     }
 }
 
 /// Answers the lines of standard input after those of the file.
 fn kept<P: Program>(path: &std::path::Path, words: &'static Words) -> ExitCode {
+    if io::stdin().is_terminal() {
+        terminal::wrap(P::NAME);
+        terminal::greet(P::NAME, words, Some(path));
+    }
     let told = |fault: &Fault| match fault {
         Fault::Input(_) | Fault::Output(_) | Fault::Long => eprintln!("{}: {fault}", P::NAME),
         _ => eprintln!("{}: {}: {fault}", P::NAME, path.display()),
@@ -241,7 +281,7 @@ fn kept<P: Program>(path: &std::path::Path, words: &'static Words) -> ExitCode {
     let session = Rc::new(RefCell::new(Session {
         file,
         words,
-        input: io::BufReader::new(io::stdin()),
+        input: terminal::Input::new(words.prompt),
         answer: Vec::new(),
         line: Vec::new(),
         given: 0,

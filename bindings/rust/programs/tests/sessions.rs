@@ -101,8 +101,9 @@ fn arguments() {
             ran(path, &["--version"], b""),
             (format!("{name} {}\n", env!("CARGO_PKG_VERSION")), String::new(), 0)
         );
-        assert_eq!(ran(path, &["--frob"], b""), (String::new(), help.clone(), 2));
-        assert_eq!(ran(path, &["--help", "x"], b""), (String::new(), help, 2));
+        let told = |word: &str| format!("{name}: there is no argument {word}; --help lists the lines\n");
+        assert_eq!(ran(path, &["--frob"], b""), (String::new(), told("--frob"), 2));
+        assert_eq!(ran(path, &["--help", "x"], b""), (String::new(), told("x"), 2));
     }
 }
 

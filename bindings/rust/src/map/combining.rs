@@ -4,6 +4,7 @@ use super::below::Held;
 use crate::proved::width::Width;
 use crate::set::conditions::{contract, memory};
 use crate::set::{AnySet, Piece};
+use alloc::vec::Vec;
 use core::cell::RefCell;
 
 /// Maps from a map, and from two.
@@ -69,5 +70,42 @@ impl<T: Width, V: Clone + Eq> IntervalMap<T, V> {
         let both = RefCell::new(both);
         let made = |v: &Held<V>, w: &Held<V>| Ok(Held((both.borrow_mut())(&v.0, &w.0)));
         Self(Some(memory(self.asked(|map| other.asked(|other| map.merge(other, made))))))
+    }
+
+    /// Returns the values of all maps: a number that one map has alone has its value, and a number of several has what a function makes of
+    /// theirs, two at a time. It is to be associative, as `+` or a union: neighbours in the order of the maps are joined first, in a
+    /// tree. `O(n log k)` for `k` maps of `n` entries in all, with copies of the values.
+    ///
+    /// ```
+    /// # use intervallum::IntervalMap;
+    /// let [a, b, c] = [[(1..=5, 1)], [(4..=9, 1)], [(5..=20, 1)]].map(IntervalMap::from);
+    /// let counts = IntervalMap::merge_of([&a, &b, &c], |x, y| x + y);
+    /// assert_eq!(counts, IntervalMap::from([(1..=3, 1), (4..=4, 2), (5..=5, 3), (6..=9, 2), (10..=20, 1)]));
+    /// ```
+    #[doc = contract!(over IntervalMap "merge")]
+    #[must_use]
+    pub fn merge_of<'a>(maps: impl IntoIterator<Item = &'a Self>, mut both: impl FnMut(&V, &V) -> V) -> Self
+    where
+        T: 'a,
+        V: 'a,
+    {
+        merged(&maps.into_iter().collect::<Vec<_>>(), &mut both)
+    }
+}
+
+/// The values of maps, of which each half is merged first.
+fn merged<T: Width, V: Clone + Eq, F: FnMut(&V, &V) -> V>(
+    maps: &[&IntervalMap<T, V>],
+    both: &mut F,
+) -> IntervalMap<T, V> {
+    match maps {
+        [] => IntervalMap::empty(),
+        [one] => (*one).clone(),
+        [one, other] => one.merge(other, both),
+        _ => {
+            let (first, second) = maps.split_at(maps.len() / 2);
+            let (first, second) = (merged(first, both), merged(second, both));
+            first.merge(&second, both)
+        }
     }
 }

@@ -3,11 +3,12 @@ use super::IntervalMap;
 use super::iterators::{IntoIter, Iter};
 use crate::proved::width::Width;
 use crate::set::Piece;
-use crate::set::conditions::memory;
+use crate::set::conditions::{broken, memory, unless_broken, written};
 use alloc::vec::Vec;
+use core::cmp::Ordering;
 use core::fmt::{self, Debug};
 use core::hash::{Hash, Hasher};
-use core::ops::RangeInclusive;
+use core::ops::{Index, RangeInclusive};
 
 /// Makes the map of every range with its value: later ones win. All numbers must be within the limits.
 impl<T: Width, V: Clone + Eq, P: Piece<T>, const N: usize> From<[(P, V); N]> for IntervalMap<T, V> {
@@ -25,8 +26,8 @@ impl<T: Width, V: Clone + Eq, P: Piece<T>> From<Vec<(P, V)>> for IntervalMap<T, 
     }
 }
 
-/// Makes the map of every range with its value: later ones win. All numbers must be within the limits. As many calls of
-/// [`insert`](IntervalMap::insert): `O(k log k)` for `k` ranges in ascending order, and at most `O(k^2)`.
+/// Makes the map of every range with its value: later ones win. All numbers must be within the limits. `O(k log k)` for `k` ranges: one sort
+/// and one sweep, and `O(k)` if they ascend. A value is copied only where later ranges leave parts of its range on both sides.
 impl<T: Width, V: Clone + Eq, P: Piece<T>> FromIterator<(P, V)> for IntervalMap<T, V> {
     fn from_iter<I: IntoIterator<Item = (P, V)>>(entries: I) -> Self {
         Self::gathered("from_iter", entries)
@@ -58,6 +59,69 @@ impl<T: Width, V: Clone + Eq> PartialEq for IntervalMap<T, V> {
 }
 
 impl<T: Width, V: Clone + Eq> Eq for IntervalMap<T, V> {}
+
+impl<T: Width, V: Clone + Ord> PartialOrd for IntervalMap<T, V> {
+    fn partial_cmp(&self, other: &Self) -> Option<Ordering> {
+        Some(self.cmp(other))
+    }
+}
+
+/// Orders maps by their numbers and the values of these, one after another, as a `BTreeMap` of single numbers. Goes by entries.
+///
+/// ```
+/// # use intervallum::IntervalMap;
+/// let [a, b, c] = [[(1..=5, 'a')], [(1..=6, 'a')], [(1..=1, 'b')]].map(IntervalMap::from);
+/// assert!(a < b && b < c && IntervalMap::new() < a);
+/// ```
+impl<T: Width, V: Clone + Ord> Ord for IntervalMap<T, V> {
+    fn cmp(&self, other: &Self) -> Ordering {
+        order(self.iter(), other.iter())
+    }
+}
+
+/// Compares numbers and values of entries as lists.
+fn order<T: Width, V: Clone + Ord>(mut a: Iter<'_, T, V>, mut b: Iter<'_, T, V>) -> Ordering {
+    loop {
+        let ((p, v), (q, w)) = match (a.next(), b.next()) {
+            (None, None) => return Ordering::Equal,
+            (None, Some(_)) => return Ordering::Less,
+            (Some(_), None) => return Ordering::Greater,
+            (Some(p), Some(q)) => (p, q),
+        };
+        let begun = p.start().cmp(q.start()).then_with(|| v.cmp(w));
+        match (begun, p.end().cmp(q.end())) {
+            (Ordering::Equal, Ordering::Equal) => {}
+            (Ordering::Equal, Ordering::Less) => return after(&p, v, a.next()),
+            (Ordering::Equal, Ordering::Greater) => return after(&q, w, b.next()).reverse(),
+            (unequal, _) => return unequal,
+        }
+    }
+}
+
+/// How a list goes on behind a run, beside another in which the number behind the run has the value of the run.
+fn after<T: Width, V: Ord>(run: &RangeInclusive<T>, value: &V, next: Option<(RangeInclusive<T>, &V)>) -> Ordering {
+    match next {
+        None => Ordering::Less,
+        Some((next, other)) if run.end().number() + 1 == next.start().number() => other.cmp(value),
+        Some(_) => Ordering::Greater,
+    }
+}
+
+/// The value of a number, which must have one.
+///
+/// ```
+/// # use intervallum::IntervalMap;
+/// let a = IntervalMap::from([(1..=5, "a")]);
+/// assert_eq!(a[3], "a");
+/// ```
+impl<T: Width, V: Clone + Eq> Index<T> for IntervalMap<T, V> {
+    type Output = V;
+
+    #[track_caller]
+    fn index(&self, number: T) -> &V {
+        unless_broken!(IntervalMap: self.get(number), "the number must have a value", "index({})", written(number))
+    }
+}
 
 /// Goes by entries.
 impl<T: Width + Hash, V: Clone + Eq + Hash> Hash for IntervalMap<T, V> {

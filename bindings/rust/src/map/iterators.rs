@@ -2,7 +2,8 @@
 use super::IntervalMap;
 use super::below::{Entry, Held};
 use super::reads::shown;
-use crate::proved::width::Width;
+use crate::proved::ops::Intersection as _;
+use crate::proved::{Interval, width::Width};
 use crate::set::reads::as_range;
 use alloc::vec::{self, Vec};
 use core::fmt::{self, Debug};
@@ -13,6 +14,13 @@ use core::slice;
 /// An iterator over entries of an [`IntervalMap`], in ascending order: the run of each, and its value.
 #[must_use = "iterators do nothing unless they are consumed"]
 pub struct Iter<'a, T: Width, V>(pub(super) slice::Iter<'a, Entry<T, V>>);
+
+/// An iterator over the parts of entries of an [`IntervalMap`] that lie in a range, in ascending order: the run of each part, and its value.
+#[must_use = "iterators do nothing unless they are consumed"]
+pub struct IterWithin<'a, T: Width, V> {
+    pub(super) left: slice::Iter<'a, Entry<T, V>>,
+    pub(super) window: Interval<T>,
+}
 
 /// An iterator over the values of an [`IntervalMap`], in ascending order of their numbers.
 #[must_use = "iterators do nothing unless they are consumed"]
@@ -87,6 +95,67 @@ macro_rules! over_entries {
 over_entries! {
     Iter yields (RangeInclusive<T>, &'a V), entry;
     Values yields &'a V, value;
+}
+
+impl<'a, T: Width, V> IterWithin<'a, T, V> {
+    /// The part of an entry in the range.
+    fn part(&self, (run, held): &'a Entry<T, V>) -> (RangeInclusive<T>, &'a V) {
+        shown((run.intersection(&self.window), held))
+    }
+}
+
+impl<T: Width, V> Clone for IterWithin<'_, T, V> {
+    fn clone(&self) -> Self {
+        IterWithin { left: self.left.clone(), window: self.window }
+    }
+}
+
+impl<'a, T: Width, V> Iterator for IterWithin<'a, T, V> {
+    type Item = (RangeInclusive<T>, &'a V);
+
+    #[inline]
+    fn next(&mut self) -> Option<Self::Item> {
+        self.left.next().map(|entry| self.part(entry))
+    }
+
+    fn size_hint(&self) -> (usize, Option<usize>) {
+        self.left.size_hint()
+    }
+
+    fn count(self) -> usize {
+        self.left.len()
+    }
+
+    fn nth(&mut self, n: usize) -> Option<Self::Item> {
+        self.left.nth(n).map(|entry| self.part(entry))
+    }
+
+    fn last(mut self) -> Option<Self::Item> {
+        self.next_back()
+    }
+}
+
+impl<T: Width, V> DoubleEndedIterator for IterWithin<'_, T, V> {
+    #[inline]
+    fn next_back(&mut self) -> Option<Self::Item> {
+        self.left.next_back().map(|entry| self.part(entry))
+    }
+
+    fn nth_back(&mut self, n: usize) -> Option<Self::Item> {
+        self.left.nth_back(n).map(|entry| self.part(entry))
+    }
+}
+
+impl<T: Width, V> ExactSizeIterator for IterWithin<'_, T, V> {}
+
+impl<T: Width, V> FusedIterator for IterWithin<'_, T, V> {}
+
+/// Writes the parts that are left.
+impl<T: Width + Debug, V: Debug> Debug for IterWithin<'_, T, V> {
+    fn fmt(&self, f: &mut fmt::Formatter<'_>) -> fmt::Result {
+        f.write_str("IterWithin ")?;
+        f.debug_map().entries(self.clone()).finish()
+    }
 }
 
 /// Writes the entries that are left.

@@ -1,6 +1,7 @@
 //! Maps without entries, and from entries.
 use super::IntervalMap;
 use super::below::{Entry, Held, Proved};
+use super::sweep::swept;
 use crate::proved::{Global, width::Width};
 use crate::set::Piece;
 use crate::set::conditions::{contract, memory};
@@ -37,13 +38,15 @@ impl<T: Width, V: Clone + Eq> IntervalMap<T, V> {
     }
 
     /// Returns the map of every range with its value that an iterator yields, as `collect` does, or `None` if some number is
-    /// outside the limits. Takes as long as so many calls of [`insert`](Self::insert).
+    /// outside the limits. `O(k log k)` for `k` ranges, and `O(k)` if they ascend.
     ///
     /// ```
     /// # use intervallum::IntervalMap;
+    /// let a = IntervalMap::checked_from_iter([(1..=5u8, 'a'), (4..=7, 'b')]);
+    /// assert_eq!(a, Some(IntervalMap::from([(1..=3, 'a'), (4..=7, 'b')])));
     /// assert_eq!(IntervalMap::checked_from_iter([(1..=5u8, 'a'), (9..=255, 'b')]), None);
     /// ```
-    #[doc = contract!(IntervalMap "from_entries")]
+    #[doc = contract!(over IntervalMap "from_entries")]
     #[must_use]
     pub fn checked_from_iter<P: Piece<T>>(entries: impl IntoIterator<Item = (P, V)>) -> Option<Self> {
         Some(Self::of_list(entries_of(entries)?))
@@ -55,8 +58,13 @@ impl<T: Width, V: Clone + Eq> IntervalMap<T, V> {
         Self::of_list(gathered(call, entries))
     }
 
-    /// Returns the map of a list of entries in any order, of which later ones win, by `from_entries`.
+    /// Returns the map of a list of entries in any order, of which later ones win.
     pub(super) fn of_list(entries: Vec<Entry<T, V>>) -> Self {
+        Self::of_ascending(swept(entries))
+    }
+
+    /// Returns the map of a list of ascending entries without common numbers, by `from_entries`.
+    pub(super) fn of_ascending(entries: Vec<Entry<T, V>>) -> Self {
         Self(Some(memory(Proved::from_entries(Global, entries.into()))))
     }
 }

@@ -1,8 +1,9 @@
 //! Queries.
 use super::IntervalMap;
 use super::below::{Entry, Held};
-use super::iterators::{Iter, Values};
+use super::iterators::{Iter, IterWithin, Values};
 use crate::IntervalSet;
+use crate::proved::ops::{Bounded as _, Cardinality as _, Intersection as _, IsEmpty as _, StrictShrinkLeft as _};
 use crate::proved::width::{SizeNumber, Width};
 use crate::proved::{AllocError, Interval, IntervalSet as ProvedIntervalSet};
 use crate::set::Piece;
@@ -194,6 +195,21 @@ impl<T: Width, V: Clone + Eq> IntervalMap<T, V> {
         Iter(self.met(range.clamped()).iter())
     }
 
+    /// Returns a double-ended iterator over the parts of entries that lie in a range, in ascending order: as
+    /// [`overlapping`](Self::overlapping), but the first and the last run end where the range does. `O(log n)`; each step is `O(1)`.
+    ///
+    /// ```
+    /// # use intervallum::IntervalMap;
+    /// let a = IntervalMap::from([(1..=5, "a"), (8..=9, "b"), (12..=20, "c")]);
+    /// assert_eq!(a.overlapping_within(4..=13).collect::<Vec<_>>(), [(4..=5, &"a"), (8..=9, &"b"), (12..=13, &"c")]);
+    /// ```
+    #[doc = contract!(over IntervalMap "overlapping")]
+    #[must_use = "iterators do nothing unless they are consumed"]
+    pub fn overlapping_within(&self, range: impl Piece<T>) -> IterWithin<'_, T, V> {
+        let window = range.clamped();
+        IterWithin { left: self.met(window).iter(), window }
+    }
+
     /// The entries that have numbers of an interval.
     pub(super) fn met(&self, interval: Interval<T>) -> &[Entry<T, V>] {
         self.0.as_ref().map_or(&[], |map| map.overlapping(interval))
@@ -202,6 +218,58 @@ impl<T: Width, V: Clone + Eq> IntervalMap<T, V> {
 
 /// Sets of numbers.
 impl<T: Width, V: Clone + Eq> IntervalMap<T, V> {
+    /// Returns true exactly when each number of a range has a value, so always for an empty range. `O(log n + k)` for the `k` entries of
+    /// the range below the first gap.
+    ///
+    /// ```
+    /// # use intervallum::IntervalMap;
+    /// let a = IntervalMap::from([(1..=5u8, "a"), (6..=9, "b")]);
+    /// assert!(a.includes(4..=9) && !a.includes(4..=10) && a.includes(20..20) && !a.includes(255..));
+    /// ```
+    #[doc = contract!(over IntervalMap "overlapping")]
+    #[must_use]
+    pub fn includes(&self, range: impl Piece<T>) -> bool {
+        range.interval().is_some_and(|interval| {
+            let mut left = interval;
+            for (run, _) in self.met(interval) {
+                if left.lower_bound() < run.lower() {
+                    return false;
+                }
+                left = left.strict_shrink_left(run.upper());
+            }
+            left.is_empty()
+        })
+    }
+
+    /// Returns true exactly when some number of a range has a value. `O(log n)`.
+    ///
+    /// ```
+    /// # use intervallum::IntervalMap;
+    /// let a = IntervalMap::from([(1..=5, "a"), (8..=9, "b")]);
+    /// assert!(a.overlaps(5..=7) && !a.overlaps(6..=7) && !a.overlaps(8..8));
+    /// ```
+    #[doc = contract!(over IntervalMap "overlapping")]
+    #[must_use]
+    pub fn overlaps(&self, range: impl Piece<T>) -> bool {
+        !self.met(range.clamped()).is_empty()
+    }
+
+    /// Returns how many numbers of a range have a value. `O(log n + k)` for the `k` entries of the range.
+    ///
+    /// ```
+    /// # use intervallum::IntervalMap;
+    /// let a = IntervalMap::from([(1..=5u8, "a"), (8..=9, "b")]);
+    /// assert_eq!((a.size_within(4..=8), a.size_within(..), a.size_within(6..8)), (3, 7, 0));
+    /// ```
+    #[doc = contract!(over IntervalMap "overlapping")]
+    #[must_use]
+    pub fn size_within(&self, range: impl Piece<T>) -> T::Output {
+        let window = range.clamped();
+        let sizes = self.met(window).iter().map(|(run, _)| run.intersection(&window).size());
+        // no more than the numbers of the range
+        sizes.fold(SizeNumber::zero(), |sum, size| SizeNumber::add_in_range(sum, size))
+    }
+
     /// Returns the set of the numbers that have a value. `O(n)`.
     ///
     /// ```
@@ -225,7 +293,7 @@ impl<T: Width, V: Clone + Eq> IntervalMap<T, V> {
     /// ```
     #[doc = contract!(IntervalMap "numbers_with")]
     #[must_use]
-    pub fn numbers_with(&self, test: impl Fn(&V) -> bool) -> IntervalSet<T> {
+    pub fn numbers_with(&self, mut test: impl FnMut(&V) -> bool) -> IntervalSet<T> {
         set(self.asked(|map| map.numbers_with(|held| test(&held.0))))
     }
 
@@ -243,7 +311,7 @@ impl<T: Width, V: Clone + Eq> IntervalMap<T, V> {
     }
 
     /// Returns the lowest `count` consecutive numbers of a range that have no value, and are within the limits, or `None` if there are
-    /// none. `count` must be above 0. `O(log n + k)` for the `k` entries in the range: makes the set of the gaps.
+    /// none. `count` must be above 0. `O(log n + k)` for the `k` entries of the range below what it finds. Does not allocate.
     ///
     /// ```
     /// # use intervallum::IntervalMap;

@@ -51,7 +51,7 @@ impl<'de, T: Width + Deserialize<'de>, V: Clone + Eq + Deserialize<'de>> Visitor
         }
         entries.sort_by_key(|(run, _)| run.lower());
         apart(&entries)?;
-        Ok(IntervalMap::of_list(entries))
+        Ok(IntervalMap::of_ascending(entries))
     }
 }
 

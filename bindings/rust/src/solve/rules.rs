@@ -114,10 +114,9 @@ impl<T: Width> Model<T> {
     #[doc = contract!(rule Sum)]
     #[track_caller]
     pub fn sum(&mut self, variables: &[Variable], total: Variable) {
-        let call = format_args!("sum(.., {total:?})");
         let is_again = |(i, term): (usize, &Variable)| *term == total || variables[..i].contains(term);
         if variables.iter().enumerate().any(is_again) {
-            broken("Model", call, DIFFERENT);
+            broken("Model", format_args!("sum(.., {total:?})"), DIFFERENT);
         }
         let mut terms = Vec::with_capacity(variables.len());
         for variable in variables {
@@ -125,7 +124,7 @@ impl<T: Width> Model<T> {
         }
         let sum = Sum { total: self.known("sum", total), terms };
         if self.partial_sums(&sum.terms).is_none() {
-            broken("Model", call, within_range::<T>("the sums"));
+            broken("Model", format_args!("sum(.., {total:?})"), within_range::<T>("the sums"));
         }
         match sum.terms[..] {
             [] => self.restrict(total, T::zero()),
@@ -154,8 +153,8 @@ impl<T: Width> Model<T> {
                 let [first, second] = self.different("no_overlap", [*x, *y]);
                 let pair = Apart { x: first, x_length: (*x_length).into(), y: second, y_length: (*y_length).into() };
                 if self.distance(&pair).is_none() {
-                    let call = format_args!("no_overlap(.. {x:?}, {y:?} ..)");
-                    broken("Model", call, within_range::<T>("the differences of the beginnings"));
+                    let condition = within_range::<T>("the differences of the beginnings");
+                    broken("Model", format_args!("no_overlap(.. {x:?}, {y:?} ..)"), condition);
                 }
                 self.apart.push(pair);
             }

@@ -9,7 +9,7 @@ ghost use Rattle.ivl_map.specs.Lookups.{IsFirstRunOf};
 
 use super::IntervalMap;
 use crate::merge::merged;
-use crate::updates::updated;
+use crate::updates::update_in;
 use crate::value::MapValue;
 use crate::writes::put_if_free;
 use intervallum::interval::Interval;
@@ -69,8 +69,9 @@ impl<B: Width, V: MapValue> IntervalMap<B, V> {
     /// what `change` returns for it. `change` is called once for each entry that has numbers of the
     /// interval, in ascending order.
     ///
-    /// `O(n)`: makes the list of entries anew, and copies the values of the numbers outside of the
-    /// interval.
+    /// `O(log n + k)`, if `k` entries have numbers of the interval, or `O(n)` if the number of entries
+    /// changes, as the entries above the interval then move. Copies the values of the entries next to
+    /// the interval, and of those that it splits. Reserves `k + 2` entries, and as many until it returns.
     ///
     /// # Errors
     ///
@@ -101,9 +102,7 @@ impl<B: Width, V: MapValue> IntervalMap<B, V> {
         if interval.is_empty() {
             return Ok(());
         }
-        let entries = updated(self.allocator(), &self.entries, interval, change)?;
-        self.entries = entries;
-        Ok(())
+        update_in(&mut self.entries, interval, change)
     }
 
     /// Returns the map of what either of two maps has: a number that has a value in one of them alone

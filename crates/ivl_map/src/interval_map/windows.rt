@@ -1,10 +1,11 @@
 //! What a map has within a window.
-ghost use Rattle.std.specs.Prelude.{◌≡◌, ◌↔◌, ◌<◌, ℤ, All, IfOk, MatchOption};
+ghost use Rattle.std.specs.Prelude.{◌≡◌, ◌↔◌, ◌<◌, ◌≤◌, ℤ, pos, ◌+ℤ◌, ◌-ℤ◌, All, IfOk, IsOk, MatchOption};
+ghost use Rattle.ivl_laws.specs.Bounds.{width_of};
 ghost use Rattle.ivl_laws.specs.Counts.{IsIn};
 ghost use Rattle.ivl_laws.specs.Sets.{HasSome, Intersection, IsBetween, Without};
 ghost use Rattle.ivl_laws.specs.Runs.{IsRunsOf};
 ghost use Rattle.ivl_places.specs.FirstFit.{FitsAt, IsFirstFit};
-ghost use Rattle.ivl_map.specs.Entries.{HasAt, HasValue, IsEntryListIn};
+ghost use Rattle.ivl_map.specs.Entries.{HasAt, HasValue, IsEntryList, IsEntryListIn};
 
 use super::IntervalMap;
 use super::numbers::numbers_of;
@@ -12,8 +13,10 @@ use crate::edits::span;
 use crate::value::MapValue;
 use intervallum::interval::Interval;
 use intervallum::interval_set::IntervalSet;
-use intervallum::ops::{Difference, IsEmpty};
-use intervallum::width::Width;
+use intervallum::ops::{
+    Bounded, Cardinality, Difference, IsEmpty, Range, StrictShrinkLeft, StrictShrinkRight,
+};
+use intervallum::width::{SizeNumber, Width};
 use std::alloc::AllocError;
 
 impl<B: Width, V: MapValue> IntervalMap<B, V> {
@@ -72,8 +75,8 @@ impl<B: Width, V: MapValue> IntervalMap<B, V> {
     /// value, or `None` if there is none. The caller must ensure that `count` is above 0. Check with
     /// `count.number() > 0`.
     ///
-    /// Makes the gaps: costs as much as [`IntervalMap::gaps_within`], and needs as much memory until
-    /// it returns. Fails only if allocation fails.
+    /// Walks the `k` entries of the window up to the first gap that is long enough: `O(log n + k)`. Does
+    /// not allocate, and never fails.
     ///
     /// ```
     /// let mut a = IntervalMap::of(alloc, Interval::new(3i32, 5), 'a')?;
@@ -88,11 +91,52 @@ impl<B: Width, V: MapValue> IntervalMap<B, V> {
     ) -> Result<Option<Interval<B>>, AllocError>
         requires { 0 < B.Output.size count }
         // None: nowhere in the window do so many numbers without a value stand in a row. Else the lowest that do.
-        ensures { IfOk result (λ fit. MatchOption fit
+        ensures fit { IfOk result (λ fit. MatchOption fit
             ((v : ℤ) → ¬ (FitsAt (B.Output.size count) (Without (IsBetween window) (HasValue (HasAt V.eq self.now))) v))
             (IsFirstFit (B.Output.size count) (Without (IsBetween window) (HasValue (HasAt V.eq self.now))))) }
+
+        // It cannot fail.
+        ensures never_fails { IsOk result }
     {
-        let gaps = self.gaps_within(window)?;
-        Ok(gaps.first_fit(count))
+        Ok(first_gap(self.overlapping(window), window, count))
     }
+}
+
+/// The lowest `count` consecutive numbers of a window that no entry has.
+fn first_gap<B: Width, V: MapValue>(
+    entries: &[(Interval<B>, V)],
+    window: Interval<B>,
+    count: B::Output,
+) -> Option<Interval<B>>
+    requires above_zero { 0 < B.Output.size count }
+    requires entries { IsEntryList V.eq entries.now }
+    ensures { MatchOption result
+        ((v : ℤ) → ¬ (FitsAt (B.Output.size count) (Without (IsBetween window) (HasValue (HasAt V.eq entries.now))) v))
+        (IsFirstFit (B.Output.size count) (Without (IsBetween window) (HasValue (HasAt V.eq entries.now)))) }
+{
+    let mut rest = window;
+    for entry in entries {
+        let gap = rest.strict_shrink_right(entry.0.lower());
+        if gap.size() >= count {
+            return Some(lowest_of(gap, count));
+        }
+        rest = rest.strict_shrink_left(entry.0.upper());
+    }
+    if rest.size() >= count {
+        Some(lowest_of(rest, count))
+    } else {
+        None
+    }
+}
+
+/// The lowest `count` numbers of an interval that has at least so many.
+fn lowest_of<B: Width>(gap: Interval<B>, count: B::Output) -> Interval<B>
+    requires above_zero { 0 < B.Output.size count }
+    requires enough { B.Output.size count ≤ width_of gap }
+    ensures { result ≡ (gap.0, (gap.0 +ℤ pos (B.Output.size count)) -ℤ pos 1) }
+{
+    gap.in_whole();
+    let start = gap.lower_bound();
+    let last = start.number() + (count.number() - 1) as i128;
+    Interval::new(start, B::from_number(last).unwrap())
 }

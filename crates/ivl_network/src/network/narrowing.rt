@@ -10,7 +10,7 @@ ghost use Rattle.ivl_rules.specs.declared.rules.Rule.{Rule};
 ghost use Rattle.ivl_rules.specs.Rules.{AreDifferent, NarrowedBy, places as places_of};
 ghost use Rattle.ivl_network.specs.Costs.{cost_of_rule as cost_of};
 ghost use Rattle.ivl_network.specs.Families.{ArePresent};
-ghost use Rattle.ivl_network.specs.Settled.{HasTwo};
+ghost use Rattle.ivl_network.specs.Settled.{AreTold, HasTwo};
 ghost use Rattle.ivl_network.specs.Trail.{KeepsPast};
 
 use super::allowed::Allowed;
@@ -41,6 +41,7 @@ pub(super) fn narrow_logged<B: Width>(
     ensures kept_count { length store.new ≡ length store.old }
     ensures narrowed { OnOk result ((i : ℕ) (v : ℤ) → set_at store.new i v ↔ NarrowedBy rule.now (set_at store.old) i v) }
     ensures lost { IfOk result (λ lost. AreLost (places_of rule.now) lost (set_at store.old) (set_at store.new)) }
+    ensures told { IfOk result (λ lost. AreTold (places_of rule.now) lost (set_at store.old) (set_at store.new)) }
     ensures same { IfOk result (λ lost. any_lost lost ≡ false → store.new ≡ store.old) }
     ensures past { OnOk result ((rules : List Rule) → KeepsPast marks.now trail.old.items trail.new.items store.old store.new rules) }
     ensures range { OnOk result (All (IsRunListIn B.whole) store.old) }

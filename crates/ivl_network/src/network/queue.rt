@@ -8,7 +8,7 @@ ghost use Rattle.ivl_store.specs.Narrowing.{AllPresent};
 ghost use Rattle.ivl_store.specs.Settled.{AreLost, any_lost};
 ghost use Rattle.ivl_rules.specs.Rules.{AreDifferent, NamesOf, NarrowedBy, needs_singles, places as places_of};
 ghost use Rattle.ivl_network.specs.Families.{ArePresent};
-ghost use Rattle.ivl_network.specs.Settled.{AreClearedListed, AreClearedRules, AreSettledRules, AreSingleBeside, IsOneAtMost, StaysBeside};
+ghost use Rattle.ivl_network.specs.Settled.{AreClearedListed, AreClearedRules, AreSettledRules, AreSingleBeside, AreTold, IsOneAtMost, KeepsSettled, StaysBeside};
 
 use super::index::Index;
 use super::narrowing::has_two;
@@ -159,6 +159,8 @@ impl Queue {
         ensures queue { IsRuleQueue self.new }
         ensures count { length self.new.settled.items ≡ length rules.now }
         ensures alone { any_lost lost ≡ false → self.new.settled.items ≡ slice_set self.old.settled.items i true }
+        ensures stays { (old : List (List (ℤ × ℤ))) → HoldsAt (λ c. AreTold (places_of c) lost (set_at old) (set_at store.now)) rules.now i
+            → KeepsSettled rules.now (set_at old) (set_at store.now) self.old.settled.items self.new.settled.items }
         ensures settled { (old : List (List (ℤ × ℤ))) → HoldsAt (λ c. (j : ℕ) (v : ℤ) → set_at store.now j v ↔ NarrowedBy c (set_at old) j v) rules.now i
             → HoldsAt (λ c. AreLost (places_of c) lost (set_at old) (set_at store.now)) rules.now i
             → AreSettledRules rules.now self.old.settled.items (set_at old) → AreSettledRules rules.now self.new.settled.items (set_at store.now) }

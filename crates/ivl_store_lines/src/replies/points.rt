@@ -1,10 +1,9 @@
 //! The lines of solutions.
-ghost use Rattle.std.specs.Prelude.{◌≡◌, ◌++◌, ◌<◌, ℕ, List, [], IfNone, IfSome, OnOk, codes, decimal, length, map, option_map, string_bytes};
+ghost use Rattle.std.specs.Prelude.{◌≡◌, ◌++◌, ◌<◌, ℕ, List, [], IfNone, IfSome, OnOk, codes, length, map, option_map, string_bytes};
 ghost use Rattle.std.specs.Fmt.{signed_decimal};
 ghost use Rattle.std.specs.Io.KnownBytes.{Appends};
 ghost use Rattle.ivl_lines.specs.Escapes.{escaped};
-ghost use Rattle.ivl_lines.specs.Lines.{with_newline};
-ghost use Rattle.ivl_store_lines.specs.Solved.{best_text, end_line, entries, point_line, point_lines};
+ghost use Rattle.ivl_store_lines.specs.Solved.{best_text, count_line, end_line, entries, point_line, point_lines};
 
 use ivl_lines::Escaped;
 use ivl_search::search::{Best, End, Found};
@@ -25,13 +24,23 @@ pub fn write_solutions<W: Write>(
     write_end(writer, found.points.len(), found.end)
 }
 
-/// Writes the number of solutions, and then how their search ended.
+/// Writes the number of solutions, or that there are so many at least, and then how their search ended.
 pub fn write_count<W: Write>(writer: &mut W, count: usize, end: End) -> io::Result<()>
     ensures { OnOk result (Appends (W.contents writer.old) (W.contents writer.new)
-        (codes "count " ++ with_newline (decimal count) ++ end_line count end)) }
+        (count_line count end ++ end_line count end)) }
 {
-    writeln!(writer, "count {count}")?;
+    write_number(writer, count, end)?;
     write_end(writer, count, end)
+}
+
+fn write_number<W: Write>(writer: &mut W, count: usize, end: End) -> io::Result<()>
+    ensures { OnOk result (Appends (W.contents writer.old) (W.contents writer.new) (count_line count end)) }
+{
+    match end {
+        End::All => writeln!(writer, "count {count}"),
+        End::Solutions => writeln!(writer, "count at least {count}"),
+        End::Nodes => writeln!(writer, "count at least {count}"),
+    }
 }
 
 /// Writes the best solution, if one was found, and then how the search ended.

@@ -26,7 +26,11 @@ impl KeptFile {
         let mut file =
             OpenOptions::new().read(true).write(true).create(true).truncate(false).open(path).map_err(Fault::File)?;
         let lock = lock(&file).map_err(Fault::File)?.ok_or(Fault::Taken)?;
-        let head = format!("intervallum {program} 1\n");
+        // (another program may have put a shorter one in its place before it was locked)
+        if !is_still(path, &file).map_err(Fault::File)? {
+            return Err(Fault::Taken);
+        }
+        let head = head(program);
         if file.metadata().map_err(Fault::File)?.len() == 0 {
             begin(&mut file, path, &head).map_err(Fault::File)?;
         }
@@ -44,6 +48,19 @@ impl KeptFile {
             file.set_len(end).map_err(Fault::File)?;
         }
         Ok(KeptFile { file, lines, row: first, number: 1, last: 0, earlier: end, end, _lock: lock })
+    }
+
+    /// Writes a new file with these lines, each with the checksum of its answer. It is on the disk when this returns.
+    pub(super) fn write(path: &Path, program: &str, rows: &[(u32, &[u8])]) -> io::Result<()> {
+        let mut file = OpenOptions::new().write(true).create_new(true).open(path)?;
+        let mut text = head(program).into_bytes();
+        for (sum, line) in rows {
+            text.extend_from_slice(format!("{sum:08x} ").as_bytes());
+            text.extend_from_slice(line);
+            text.push(b'\n');
+        }
+        file.write_all(&text)?;
+        file.sync_all()
     }
 
     /// The number of the line that was read last, in the file.
@@ -117,10 +134,34 @@ impl KeptFile {
     }
 }
 
+fn head(program: &str) -> String {
+    format!("intervallum {program} 1\n")
+}
+
+/// Whether this is still the file of this name.
+fn is_still(path: &Path, file: &File) -> io::Result<bool> {
+    #[cfg(unix)]
+    {
+        use std::os::unix::fs::MetadataExt;
+        let (named, open) = (std::fs::metadata(path)?, file.metadata()?);
+        Ok((named.dev(), named.ino()) == (open.dev(), open.ino()))
+    }
+    #[cfg(not(unix))]
+    {
+        let _ = (path, file);
+        Ok(true)
+    }
+}
+
 /// Writes the first line, and has the file's name on the disk.
 fn begin(file: &mut File, path: &Path, head: &str) -> io::Result<()> {
     file.write_all(head.as_bytes())?;
     file.sync_all()?;
+    sync_folder(path)
+}
+
+/// Has the name of a file on the disk.
+pub(super) fn sync_folder(path: &Path) -> io::Result<()> {
     match path.parent() {
         Some(folder) if !folder.as_os_str().is_empty() => File::open(folder)?.sync_all(),
         _ => File::open(".")?.sync_all(),

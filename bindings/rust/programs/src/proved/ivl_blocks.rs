@@ -14,6 +14,7 @@
 use crate::rattle::prelude::*;
 
 mod blocks;
+mod helps;
 
 use crate::proved::ivl_lines::{Program, SessionFault, run};
 use crate::rattle::std::io::{Read, Write};
@@ -22,12 +23,15 @@ use crate::rattle::std::process::ExitCode;
 const HELP: &str = "\
 Keeps the free blocks of a disk, from 0 to 1099511627775: reads one line at a time from standard input, and answers each.
 
-  take COUNT         takes the lowest COUNT consecutive free blocks: [0..7], or none
-  give FIRST LAST    gives blocks back: ok, or some of them are free, and then nothing changes
-  free               how many blocks are free, and in how many runs
-  largest            the lowest of the longest runs of free blocks, or none
+  take COUNT               takes the lowest COUNT consecutive free blocks: [0..7], or none
+  take COUNT at BLOCK      takes those from BLOCK on, or none if one of them is not free
+  take COUNT above BLOCK   takes the lowest COUNT consecutive free blocks above BLOCK, or none
+  give FIRST LAST          gives blocks back: ok, or some of them are free, and then nothing changes
+  free                     how many blocks are free, and in how many runs
+  largest                  the lowest of the longest runs of free blocks, or none
+  help, help COMMAND       the commands, or what one does
 
---version prints the version.
+A line that begins with # is a comment. --version prints the version.
 ";
 
 /// The lines of this program.

@@ -1,8 +1,7 @@
 // Written by bindings/rust/extract from crates/ivl_calendar/src/main.rt.
-//! A calendar of rooms, one request per line: `room blue` adds a room, `book blue 2026-03-01 2026-03-04` books it if it
-//! is free, `book blue 2026-03-05 2026-03-06 anna` books it for anna, `gap blue 3 2026-03-01 2026-03-31` finds the first
-//! three days on which it is free, `free 2026-03-01 2026-03-31` prints the days on which all rooms are free,
-//! `who blue 2026-03-05` prints who has booked it on that day, and `of anna` the days that are booked for anna.
+//! A calendar of rooms, one request per line: `room blue` adds a room, `book blue 2026-03-05 2026-03-06 anna` books it
+//! for anna if it is free, `cancel blue 2026-03-06 2026-03-06` frees it, `show blue` prints its bookings, and
+//! `gap blue 3 2026-03-01 2026-03-31` finds the first three days on which it is free.
 
 #[allow(unused_imports)]
 use crate::rattle::prelude::*;
@@ -10,10 +9,13 @@ use crate::rattle::prelude::*;
 mod calendar;
 mod dates;
 mod engine;
+mod faults;
+mod helps;
 mod names;
 mod replies;
 mod requests;
 mod rooms;
+mod shown;
 
 use crate::proved::ivl_lines::{Program, SessionFault, run};
 use crate::rattle::std::io::{Read, Write};
@@ -23,14 +25,19 @@ const HELP: &str = "\
 Books rooms by the day: reads one line at a time from standard input, and answers each.
 
   room NAME                    a new room, free on all days: ok
-  book NAME FIRST LAST         books it from the first date to the last: booked, or taken
-  book NAME FIRST LAST WHO     books it for a name, such as anna, which is neither a date nor free
-  gap NAME DAYS FIRST LAST     the first so many days in a row on which it is free, between two dates
-  free FIRST LAST              the days between two dates on which all rooms are free
-  who NAME DATE                the name for which it is booked on that day, booked without a name, or free
+  rooms                        the names of the rooms
+  book ROOM FIRST LAST WHO     books it from the first date to the last for a name: booked, or what is in the way
+  book ROOM FIRST LAST         books it without a name
+  cancel ROOM FIRST LAST       frees it on these days, whoever booked it: cancelled, or not booked
+  show ROOM                    its bookings, those with a name first
+  who ROOM DATE                the name for which it is booked on that day, booked without a name, or free
   of WHO                       the days that are booked for a name, each after its room, or none
+  gap ROOM DAYS FIRST LAST     the first so many days in a row on which it is free, between two dates
+  free FIRST LAST              the days between two dates on which all rooms are free
+  help, help COMMAND           the commands, or what one does
 
-Dates are written as 2026-03-01. --version prints the version.
+Dates are written as 2026-03-01, and names have no space: anna_maria. A line that begins with # is a comment.
+--version prints the version.
 ";
 
 /// The lines of this program.

@@ -23,7 +23,8 @@ pub enum Asking {
     Alike,
 }
 
-/// Returns 1 for yes, 0 for no, or an error code.
+/// Returns 1 for yes, 0 for no, or an error code. `O(n + m)` if both are lists of runs, else
+/// `O(n log n + m log m)`.
 ///
 /// # Proved
 ///
@@ -78,7 +79,8 @@ fn asked<R: Pair>(alloc: Global, asking: Asking, a: &[R], b: &[R]) -> Result<boo
     })
 }
 
-/// Writes the number of members and returns 0, or returns an error code.
+/// Writes the number of members and returns 0, or returns an error code. `O(n log n)` for `n` pairs, or
+/// `O(n)` if they ascend.
 ///
 /// # Proved
 ///

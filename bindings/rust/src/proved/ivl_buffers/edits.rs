@@ -19,7 +19,8 @@ pub enum Editing {
 }
 
 /// Adds or removes a run. The list is the first `n` pairs of the buffer, and what is made of it is
-/// written to the same buffer. Returns the number of runs or an error code.
+/// written to the same buffer. Returns the number of runs or an error code. `O(n log n)`, or `O(n)` if
+/// the pairs ascend.
 ///
 /// # Proved
 ///

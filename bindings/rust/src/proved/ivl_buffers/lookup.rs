@@ -42,7 +42,7 @@ fn least_from<R: Pair>(runs: &[R], v: R::Bound) -> Option<R::Bound> {
     least
 }
 
-/// Returns the least number of a pair that is at least `v`.
+/// Returns the least number of a pair that is at least `v`. `O(1)`.
 ///
 /// # Proved
 ///
@@ -73,7 +73,7 @@ fn lesser<B: Width>(a: Option<B>, b: Option<B>) -> Option<B> {
 }
 
 /// Writes the lowest `count` consecutive members and returns 1, or returns 0 if there are none, or
-/// an error code.
+/// an error code. `O(n log n)` for `n` pairs, or `O(n)` if they ascend.
 ///
 /// # Proved
 ///

@@ -1,9 +1,8 @@
 // Written by bindings/rust/extract from crates/ivl_buffers/src/merging.rt.
 //! What is made of two run lists by one walk over both, in the caller's buffer.
 //!
-//! A walk writes the runs of its answer to the first places of the buffer, as many as there are
-//! places, and returns the number of all of them. It is linear in the runs of both lists, and does
-//! not allocate.
+//! A walk writes the runs of its answer to the start of the buffer, as many as it has room for, and
+//! returns the number of all of them. It is linear in the runs of both lists, and does not allocate.
 
 #[allow(unused_imports)]
 use crate::rattle::prelude::*;
@@ -11,11 +10,11 @@ use crate::proved::ivl_buffers::pair::Pair;
 use crate::proved::ivl_merges::merges;
 use crate::proved::ivl_merges::sink::Places;
 
-/// Writes the members of both run lists.
+/// Writes the members of both run lists. `O(n + m)`.
 ///
 /// # Proved
 ///
-/// The runs of exactly the numbers in both lists are laid in the slice, as many as it has places, and the number of all is returned, at most as many as the two lists have together.
+/// The runs of exactly the numbers in both lists are laid in the slice, as many as it has room for, and the number of all is returned, at most as many as the two lists have together.
 ///
 /// ```text
 /// requires first { IsRunListIn R.Bound.whole (map R.pair a.now) }
@@ -35,11 +34,11 @@ pub fn intersection<R: Pair>(a: &[R], b: &[R], out: &mut [R]) -> usize {
     made.count()
 }
 
-/// Writes the members of the first run list that are not in the second.
+/// Writes the members of the first run list that are not in the second. `O(n + m)`.
 ///
 /// # Proved
 ///
-/// The runs of exactly the numbers in `a` and not in `b` are laid in the slice, as many as it has places, and the number of all is returned, at most as many as the two lists have together.
+/// The runs of exactly the numbers in `a` and not in `b` are laid in the slice, as many as it has room for, and the number of all is returned, at most as many as the two lists have together.
 ///
 /// ```text
 /// requires first { IsRunListIn R.Bound.whole (map R.pair a.now) }
@@ -59,11 +58,11 @@ pub fn difference<R: Pair>(a: &[R], b: &[R], out: &mut [R]) -> usize {
     made.count()
 }
 
-/// Writes the numbers of the range that are in no run of the list.
+/// Writes the numbers of the range that are in no run of the list. `O(n)`.
 ///
 /// # Proved
 ///
-/// The runs of exactly the numbers of the range that are not in the list are laid in the slice, as many as it has places, and the number of all is returned, at most one more than the list has.
+/// The runs of exactly the numbers of the range that are not in the list are laid in the slice, as many as it has room for, and the number of all is returned, at most one more than the list has.
 ///
 /// ```text
 /// requires runs { IsRunListIn R.Bound.whole (map R.pair runs.now) }
@@ -81,11 +80,11 @@ pub fn complement<R: Pair>(runs: &[R], out: &mut [R]) -> usize {
     made.count()
 }
 
-/// Writes the members of either run list.
+/// Writes the members of either run list. `O(n + m)`.
 ///
 /// # Proved
 ///
-/// The runs of exactly the numbers in either list are laid in the slice, as many as it has places, and the number of all is returned, at most as many as the two lists have together.
+/// The runs of exactly the numbers in either list are laid in the slice, as many as it has room for, and the number of all is returned, at most as many as the two lists have together.
 ///
 /// ```text
 /// requires first { IsRunListIn R.Bound.whole (map R.pair a.now) }
@@ -105,11 +104,11 @@ pub fn union<R: Pair>(a: &[R], b: &[R], out: &mut [R]) -> usize {
     made.count()
 }
 
-/// Writes the members of exactly one of the two run lists.
+/// Writes the members of exactly one of the two run lists. `O(n + m)`.
 ///
 /// # Proved
 ///
-/// The runs of exactly the numbers in either list and not in both are laid in the slice, as many as it has places, and the number of all is returned, at most as many as the two lists have together.
+/// The runs of exactly the numbers in either list and not in both are laid in the slice, as many as it has room for, and the number of all is returned, at most as many as the two lists have together.
 ///
 /// ```text
 /// requires first { IsRunListIn R.Bound.whole (map R.pair a.now) }

@@ -12,6 +12,7 @@ use crate::proved::intervallum::width::Width;
 use crate::rattle::std::alloc::{AllocError, Global};
 
 /// Makes the set of the products, and writes its runs. Returns their number or an error code.
+/// `O(n m log (n m))` for `n` and `m` pairs.
 ///
 /// # Proved
 ///

@@ -9,7 +9,8 @@ use crate::proved::ivl_buffers::writing::{OUT_OF_MEMORY, OUT_OF_RANGE};
 use crate::proved::intervallum::width::Width;
 use crate::rattle::std::alloc::{AllocError, Global};
 
-/// Writes the number of members below `v` and returns 0, or returns an error code.
+/// Writes the number of members below `v` and returns 0, or returns an error code. `O(n log n)` for `n`
+/// pairs, or `O(n)` if they ascend.
 ///
 /// # Proved
 ///
@@ -50,7 +51,7 @@ fn rank_of<R: Pair>(
 }
 
 /// Writes the member with exactly `i` members below it and returns 1, or returns 0 if there is none,
-/// or an error code.
+/// or an error code. `O(n log n)` for `n` pairs, or `O(n)` if they ascend.
 ///
 /// # Proved
 ///

@@ -11,7 +11,8 @@ use crate::proved::intervallum::sweep::coalesce;
 use crate::proved::intervallum::width::Width;
 use crate::rattle::std::alloc::{AllocError, Global};
 
-/// Returns true exactly when each member of the pairs is in the range.
+/// Returns true exactly when each member of the pairs is in the range. `O(n)` for `n` pairs, does not
+/// allocate.
 ///
 /// # Proved
 ///
@@ -41,7 +42,7 @@ fn is_crossed<R: Pair>(run: R) -> bool {
     run.upper() < run.lower()
 }
 
-/// Returns the set of the members of the pairs.
+/// Returns the set of the members of the pairs. `O(n log n)` for `n` pairs, or `O(n)` if they ascend.
 ///
 /// # Proved
 ///

@@ -34,7 +34,8 @@ pub enum OfTwo {
     OneAlone,
 }
 
-/// Makes a set of one list, and writes its runs. Returns their number or an error code.
+/// Makes a set of one list, and writes its runs. Returns their number or an error code. `O(n log n)` for
+/// `n` pairs, or `O(n)` if they ascend.
 ///
 /// # Proved
 ///
@@ -89,7 +90,8 @@ fn walk_rest<R: Pair>(a: &[R], out: &mut [R]) -> i64 {
     complement(a, out) as i64
 }
 
-/// Makes a set of two lists, and writes its runs. Returns their number or an error code.
+/// Makes a set of two lists, and writes its runs. Returns their number or an error code. `O(n + m)` if
+/// both are lists of runs, else `O(n log n + m log m)`.
 ///
 /// # Proved
 ///

@@ -21,6 +21,7 @@ pub enum Adding {
 }
 
 /// Makes the set of the sums or differences that are in the range, and writes its runs.
+/// `O(n m log (n m))` for `n` and `m` pairs.
 ///
 /// # Proved
 ///

@@ -18,7 +18,7 @@ pub const OUT_OF_MEMORY: i64 = -2;
 pub const PRODUCT_OUT_OF_RANGE: i64 = -3;
 
 /// Writes the runs of a set if there is room for all, and returns their number. Returns a code if
-/// making the set failed, or if the number does not fit `i64`.
+/// making the set failed, or if the number does not fit `i64`. `O(n)` for `n` runs.
 ///
 /// # Proved
 ///

@@ -74,7 +74,7 @@ pub enum JsonFault {
     /// An allocation failed. Only a set's `from_value` allocates.
 
     Memory,
-    /// The item of a set at this place, counted from 0, is the first that is not an interval.
+    /// The item of a set at this index is the first that is not an interval.
 
     At(usize, ItemFault),
 }
@@ -102,7 +102,7 @@ impl core::error::Error for JsonFault {}
 ///
 /// Words: [`json_fault`](crate::definitions#json_fault).
 impl From<ItemFault> for JsonFault {
-    /// Returns the same fault, for an interval that is not an item of a set.
+    /// Returns the same fault, for an interval that is not an item of a set. `O(1)`.
     ///
     /// ```
     /// use intervallum::proved::examples::*;
@@ -129,7 +129,7 @@ impl From<ItemFault> for JsonFault {
 /// from_gives = { λ _ fault. fault ≡ Memory }
 /// ```
 impl From<AllocError> for JsonFault {
-    /// Returns [`JsonFault::Memory`].
+    /// Returns [`JsonFault::Memory`]. `O(1)`.
     ///
     /// ```
     /// use intervallum::proved::examples::*;

@@ -3,7 +3,7 @@
 
 #[allow(unused_imports)]
 use crate::rattle::prelude::*;
-use crate::proved::ivl_map::search::{ends_below, starts_from};
+use crate::proved::ivl_map::search::{ends_below_from_end, starts_from};
 use crate::proved::ivl_map::value::MapValue;
 use crate::proved::intervallum::interval::Interval;
 use crate::proved::intervallum::ops::{Bounded, StrictShrinkLeft, StrictShrinkRight};
@@ -58,6 +58,56 @@ pub(crate) fn put_in<B: Width, V: MapValue>(
     Ok(())
 }
 
+/// Moves the entries from place `tail` on to place `at`, in front of those that were there.
+pub(crate) fn move_tail_to<B: Width, V: MapValue>(
+    entries: &mut [(Interval<B>, V)],
+    tail: usize,
+    at: usize,
+) {
+    entries[at..].rotate_left(tail - at);
+}
+
+/// Puts as many entries in the place of those from `start` to before `end`, and takes these out.
+fn exchange<B: Width, V: MapValue>(
+    entries: &mut [(Interval<B>, V)],
+    start: usize,
+    end: usize,
+    list: &mut [(Interval<B>, V)],
+) {
+    entries[start..end].swap_with_slice(list);
+}
+
+/// Puts a list of entries at a place. Fails only if there is no room, and allocation fails. Moves the entries above them once.
+fn put_all<B: Width, V: MapValue>(
+    entries: &mut Vec<(Interval<B>, V)>,
+    at: usize,
+    mut list: Vec<(Interval<B>, V)>,
+) -> Result<(), AllocError> {
+    let count = entries.len();
+    entries.append(&mut list)?;
+    move_tail_to(entries.as_mut_slice(), count, at);
+    Ok(())
+}
+
+/// Puts entries in the place of those from `start` to before `end`. Fails only if there is no room, and allocation fails.
+/// What goes is dropped last.
+pub(crate) fn put_list<B: Width, V: MapValue>(
+    entries: &mut Vec<(Interval<B>, V)>,
+    start: usize,
+    end: usize,
+    mut list: Vec<(Interval<B>, V)>,
+) -> Result<(), AllocError> {
+    let added = list.len();
+    if added == end - start {
+        // as many come as go, so no other entry moves
+        exchange(entries.as_mut_slice(), start, end, list.as_mut_slice());
+        return Ok(());
+    }
+    put_all(entries, start, list)?;
+    take_out(entries, start + added, end + added);
+    Ok(())
+}
+
 /// Keeps at most two parts of the entries from `start` to before `end`: one with the value of the
 /// first, and one with the value of the last. Of two parts of one entry the second has a copy of
 /// the value. If the copy or an allocation fails, the entries stay as they are.
@@ -102,7 +152,7 @@ pub(crate) fn span<B: Width, V: MapValue>(
     entries: &[(Interval<B>, V)],
     interval: Interval<B>,
 ) -> (usize, usize) {
-    let start = ends_below(entries, interval.lower());
+    let start = ends_below_from_end(entries, interval.lower());
     let end = starts_from(entries, interval.upper(), start);
     (start, end)
 }

@@ -31,7 +31,8 @@ use crate::rattle::std::alloc::{AllocError, Global};
 ///
 /// In costs, `n` is the number of entries. If an allocation or the copy of a value fails, a map that
 /// was to be changed is unchanged, unless the docs of a call say otherwise. A value is copied only
-/// where an edit splits its entry, before anything changes, and by calls that return another map.
+/// where an edit splits its entry, before anything changes, by [`IntervalMap::update`], and by calls
+/// that return another map.
 ///
 /// ```
 /// use intervallum::proved::examples::*;

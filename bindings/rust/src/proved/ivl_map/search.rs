@@ -23,6 +23,18 @@ pub(crate) fn ends_below<B: Width, V: MapValue>(entries: &[(Interval<B>, V)], va
     low
 }
 
+/// How many entries end below a value: one look if all do, and a search if not.
+pub(crate) fn ends_below_from_end<B: Width, V: MapValue>(
+    entries: &[(Interval<B>, V)],
+    value: B,
+) -> usize {
+    let count = entries.len();
+    if 0 < count && entries[count - 1].0.upper_bound() < value {
+        return count;
+    }
+    ends_below(entries, value)
+}
+
 /// How many entries start at a value or below.
 pub(crate) fn starts_up_to<B: Width, V: MapValue>(entries: &[(Interval<B>, V)], value: B) -> usize {
     starts_between(entries, value, 0, entries.len())

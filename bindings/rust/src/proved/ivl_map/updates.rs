@@ -3,6 +3,7 @@
 
 #[allow(unused_imports)]
 use crate::rattle::prelude::*;
+use crate::proved::ivl_map::edits::{put_list, span};
 use crate::proved::ivl_map::value::MapValue;
 use crate::proved::ivl_map::walks::{push_entry, push_part};
 use crate::proved::intervallum::interval::Interval;
@@ -37,8 +38,31 @@ fn push_updated<B: Width, V: MapValue, F: Fn(&V) -> Result<V, AllocError>>(
     push_part(entries, run.strict_shrink_left(interval.upper()), value)
 }
 
+/// The place behind a place, unless it is the end of a list.
+fn place_after(place: usize, count: usize) -> usize {
+    if place < count { place + 1 } else { count }
+}
+
+/// Changes the values of the numbers of an interval. If `change`, the copy of a value or an allocation fails, the
+/// entries stay as they are. Those that lie next to the interval are made anew too, so that they join what is equal.
+pub(crate) fn update_in<B: Width, V: MapValue, F: Fn(&V) -> Result<V, AllocError>>(
+    entries: &mut Vec<(Interval<B>, V)>,
+    interval: Interval<B>,
+    change: F,
+) -> Result<(), AllocError> {
+    let (start, end) = span(entries, interval);
+    if end <= start {
+        return Ok(());
+    }
+    let first = start.saturating_sub(1);
+    let last = place_after(end, entries.len());
+    let alloc = *entries.allocator();
+    let made = updated(alloc, &entries[first..last], interval, change)?;
+    put_list(entries, first, last, made)
+}
+
 /// The entries with a changed value at the numbers of an interval.
-pub(crate) fn updated<B: Width, V: MapValue, F: Fn(&V) -> Result<V, AllocError>>(
+fn updated<B: Width, V: MapValue, F: Fn(&V) -> Result<V, AllocError>>(
     alloc: Global,
     entries: &[(Interval<B>, V)],
     interval: Interval<B>,

@@ -9,9 +9,9 @@ use crate::rattle::std::alloc::AllocError;
 
 /// A type of values of a map: its values can be compared, copied and dropped.
 ///
-/// A map copies a value where an edit splits an entry, and where a call returns another map. The
-/// integers of at most 64 bits, `bool`, `char`, `String` and `IntervalSet` have it, and options and
-/// pairs of such types.
+/// A map copies a value where an edit splits an entry, by `update`, and where a call returns another
+/// map. The integers of at most 64 bits, `bool`, `char`, `String` and `IntervalSet` have it, and
+/// options and pairs of such types.
 ///
 /// ```
 /// use intervallum::proved::examples::*;
@@ -239,7 +239,7 @@ impl MapValue for char {
 }
 
 impl MapValue for String {
-    /// Returns a text of the same bytes.
+    /// Returns a text of the same bytes. `O(n)` for `n` bytes.
     ///
     /// # Proved
     ///
@@ -250,7 +250,7 @@ impl MapValue for String {
 }
 
 impl<B: Width> MapValue for IntervalSet<B> {
-    /// Returns a set of the same members.
+    /// Returns a set of the same members. `O(n)` for `n` runs.
     ///
     /// # Proved
     ///
@@ -261,7 +261,7 @@ impl<B: Width> MapValue for IntervalSet<B> {
 }
 
 impl<T: MapValue> MapValue for Option<T> {
-    /// Returns `None`, or a copy of the value that there is.
+    /// Returns `None`, or a copy of the value that there is. Costs that copy.
     ///
     /// # Proved
     ///
@@ -280,7 +280,7 @@ impl<T: MapValue> MapValue for Option<T> {
 }
 
 impl<S: MapValue, T: MapValue> MapValue for (S, T) {
-    /// Returns a copy of each of the two.
+    /// Returns a copy of each of the two. Costs these copies.
     ///
     /// # Proved
     ///

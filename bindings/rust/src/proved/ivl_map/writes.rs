@@ -3,7 +3,7 @@
 
 #[allow(unused_imports)]
 use crate::rattle::prelude::*;
-use crate::proved::ivl_map::edits::{keep_first, part_above, part_below, put_in, span, take_out};
+use crate::proved::ivl_map::edits::{keep_first, move_tail_to, part_above, part_below, put_in, span, take_out};
 use crate::proved::ivl_map::search::ends_below;
 use crate::proved::ivl_map::value::MapValue;
 use crate::proved::intervallum::interval::Interval;
@@ -213,9 +213,7 @@ fn lay_between<B: Width, V: MapValue>(
 ) -> Result<(), AllocError> {
     if end - start == 1 {
         let copy = entries[start].1.try_copy()?;
-        entries.reserve(2)?;
-        put_in(entries, end, high, copy).unwrap();
-        put_in(entries, end, run, value).unwrap();
+        put_two(entries, end, (run, value), (high, copy))?;
         keep_first(entries, start, end, low);
         return Ok(());
     }
@@ -223,6 +221,21 @@ fn lay_between<B: Width, V: MapValue>(
     keep_first(entries, end - 1, end, high);
     keep_first(entries, start, start + 1, low);
     replace(entries, start + 1, end - 1, run, value).unwrap();
+    Ok(())
+}
+
+/// Puts two entries at a place. Fails only if there is no room, and allocation fails. Moves the entries above them once.
+fn put_two<B: Width, V: MapValue>(
+    entries: &mut Vec<(Interval<B>, V)>,
+    at: usize,
+    first: (Interval<B>, V),
+    second: (Interval<B>, V),
+) -> Result<(), AllocError> {
+    entries.reserve(2)?;
+    let count = entries.len();
+    entries.push_reserved(first);
+    entries.push_reserved(second);
+    move_tail_to(entries.as_mut_slice(), count, at);
     Ok(())
 }
 

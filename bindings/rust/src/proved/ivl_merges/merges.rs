@@ -17,7 +17,7 @@ use crate::rattle::std::hint::select_unpredictable;
 ///
 /// The caller must ensure that both lists are runs of sets in the range, from the left, with at least one
 /// number missing between neighbours, and that the sink is empty and has room for as many runs as the
-/// two lists have. `O(n + m)` runs, of which it adds at most `n + m`. Does not allocate.
+/// two lists have. `O(n + m)`, and adds at most `n + m` runs. Does not allocate.
 ///
 /// ```
 /// use intervallum::proved::examples::*;
@@ -161,7 +161,7 @@ fn take_first<R: Pair>(a: &[R], i: &mut usize, b: &[R], j: &mut usize) -> Option
     }
 }
 
-/// Returns the pair at a place, if there is one. `O(1)`. Does not allocate.
+/// Returns the pair at index `i`, if there is one. `O(1)`. Does not allocate.
 ///
 /// ```
 /// use intervallum::proved::examples::*;
@@ -188,7 +188,7 @@ pub fn pair_at<R: Pair>(runs: &[R], i: usize) -> Option<R> {
 ///
 /// The caller must ensure that both lists are runs of sets in the range, from the left, with at least one
 /// number missing between neighbours, and that the sink is empty and has room for as many runs as the
-/// two lists have. `O(n + m)` runs, of which it adds at most `n + m`. Does not allocate.
+/// two lists have. `O(n + m)`, and adds at most `n + m` runs. Does not allocate.
 ///
 /// ```
 /// use intervallum::proved::examples::*;
@@ -238,7 +238,7 @@ pub fn intersection<R: Pair, S: Sink<R>>(a: &[R], b: &[R], out: &mut S) {
 ///
 /// The caller must ensure that both lists are runs of sets in the range, from the left, with at least one
 /// number missing between neighbours, and that the sink is empty and has room for as many runs as the
-/// two lists have. `O(n + m)` runs, of which it adds at most `n + m`. Does not allocate.
+/// two lists have. `O(n + m)`, and adds at most `n + m` runs. Does not allocate.
 ///
 /// ```
 /// use intervallum::proved::examples::*;
@@ -342,7 +342,7 @@ pub fn complement<R: Pair, S: Sink<R>>(runs: &[R], out: &mut S) {
 ///
 /// The caller must ensure that both lists are runs of sets in the range, from the left, with at least one
 /// number missing between neighbours, and that the sink is empty and has room for as many runs as the
-/// two lists have. `O(n + m)` runs, of which it adds at most `n + m`. Does not allocate.
+/// two lists have. `O(n + m)`, and adds at most `n + m` runs. Does not allocate.
 ///
 /// ```
 /// use intervallum::proved::examples::*;
@@ -473,7 +473,7 @@ fn push_past<R: Pair, S: Sink<R>>(out: &mut S, end: R::Bound) {
     out.push(R::of(end.add_in_range(R::Bound::one()), high));
 }
 
-/// Returns one if a condition holds, and zero if not.
+/// Returns one if a condition holds, and zero if not. `O(1)`.
 ///
 /// ```
 /// use intervallum::proved::examples::*;

@@ -18,7 +18,7 @@ pub trait Pair: Copy {
     /// The type of the bounds.
     type Bound: Width;
 
-    /// Returns the lower bound.
+    /// Returns the lower bound. `O(1)`.
     ///
     /// # Proved
     ///
@@ -29,7 +29,7 @@ pub trait Pair: Copy {
     /// ```
     fn lower(self) -> Self::Bound;
 
-    /// Returns the upper bound.
+    /// Returns the upper bound. `O(1)`.
     ///
     /// # Proved
     ///
@@ -41,7 +41,7 @@ pub trait Pair: Copy {
     fn upper(self) -> Self::Bound;
 
     /// Returns the pair of two bounds, of which the lower is not below the range and the upper not
-    /// above it. The two may cross.
+    /// above it. The two may cross. `O(1)`.
     ///
     /// # Proved
     ///

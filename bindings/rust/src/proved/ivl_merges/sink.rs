@@ -20,7 +20,7 @@ use crate::rattle::std::hint::select_unpredictable;
 /// repeats: { Self → Type 0 }
 /// ```
 pub trait Sink<R: Pair> {
-    /// Adds a run.
+    /// Adds a run. `O(1)`.
     ///
     /// # Proved
     ///
@@ -36,7 +36,7 @@ pub trait Sink<R: Pair> {
     /// Words: [`AddsAtEnd`](crate::definitions#AddsAtEnd).
     fn push(&mut self, run: R);
 
-    /// Adds a run, in the place of the last one if a condition holds.
+    /// Adds a run, in the place of the last one if a condition holds. `O(1)`.
     ///
     /// # Proved
     ///
@@ -53,7 +53,7 @@ pub trait Sink<R: Pair> {
     /// Words: [`AddsOver`](crate::definitions#AddsOver).
     fn push_over(&mut self, is_over: bool, run: R);
 
-    /// Adds a run unless it is crossed.
+    /// Adds a run unless it is crossed. `O(1)`.
     ///
     /// # Proved
     ///
@@ -71,8 +71,8 @@ pub trait Sink<R: Pair> {
     /// Words: [`AddsFilled`](crate::definitions#AddsFilled).
     fn push_filled(&mut self, run: R);
 
-    /// Writes a run at a place, the last one or the next, if it `is_filled`: the list ends there then.
-    /// What stands after it has to be dropped by `cut`.
+    /// Writes a run at the index `place`, the last one or the next, if it `is_filled`: the list ends there then.
+    /// What stands after it has to be dropped by `cut`. `O(1)`.
     ///
     /// # Proved
     ///
@@ -87,7 +87,7 @@ pub trait Sink<R: Pair> {
     /// Words: [`PutsAt`](crate::definitions#PutsAt).
     fn put_if(&mut self, place: usize, is_filled: bool, run: R);
 
-    /// Keeps the first `kept` runs, which are all that were written.
+    /// Keeps the first `kept` runs, which are all that were written. `O(1)`.
     ///
     /// # Proved
     ///
@@ -137,14 +137,14 @@ impl<R: Pair> Sink<R> for Vec<R> {
     }
 }
 
-/// The first places of a slice, as many as there are, and the number of all runs.
+/// A list that stands in the first elements of a slice, as far as it has room, and the number of all runs.
 ///
 /// ```
 /// use intervallum::proved::examples::*;
 ///
 /// fn main() -> Result<(), std::boxed::Box<dyn std::error::Error>> {
 ///     let alloc = Global;
-///     // both runs are counted, and the one that has a place is written
+///     // both runs are counted, and the one that has room is written
 ///     let mut buffer = [Interval::new(0u8, 0)];
 ///     let mut places = Places::new(&mut buffer);
 ///     merges::complement(&[Interval::new(4, 9)], &mut places);
@@ -161,11 +161,11 @@ pub struct Places<'a, R: Pair> {
 }
 
 impl<'a, R: Pair> Places<'a, R> {
-    /// Returns an empty list.
+    /// Returns an empty list. `O(1)`.
     ///
     /// # Proved
     ///
-    /// The slice is the one that was lent, as it is, with no run counted; `last` is what stands at its first place, if there is one.
+    /// The slice is the one that was lent, as it is, with no run counted; `last` is its first element, if there is one.
     ///
     /// ```text
     /// ensures same { result.out.ghost_name ≡ out.entry.ghost_name }
@@ -184,7 +184,7 @@ impl<'a, R: Pair> Places<'a, R> {
         }
     }
 
-    /// Gives the slice back, and returns the number of all runs.
+    /// Gives the slice back, and returns the number of all runs. `O(1)`.
     ///
     /// # Proved
     ///
@@ -228,7 +228,7 @@ impl<R: Pair> Sink<R> for Places<'_, R> {
     }
 
     /// The last run is written once more where it stands if the pair is crossed: so each step of a loop
-    /// writes, and none reads the slice, which would wait for what the step before has written.
+    /// writes, and none reads the slice, which would wait for what the step before has written. `O(1)`.
     ///
     /// # Proved
     ///
@@ -242,7 +242,7 @@ impl<R: Pair> Sink<R> for Places<'_, R> {
     }
 
     /// A compiler may choose by a jump, since what stands there is read: this serves where the
-    /// condition nearly always holds.
+    /// condition nearly always holds. `O(1)`.
     ///
     /// # Proved
     ///

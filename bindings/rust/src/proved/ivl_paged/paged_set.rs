@@ -206,8 +206,8 @@ impl<B: Width> PagedSet<B> {
     /// The caller must ensure that the value is in the range. Check with
     /// `Interval::in_range(value, value)`.
     ///
-    /// Searches one page, and moves its runs: `O(log n)`. Once in about as many edits as a page has
-    /// runs, a page is split and the list of pages moves.
+    /// Searches one page, and moves its runs: `O(log n)`, and `O(n / page)` where a page is split, once
+    /// in about as many edits as a page has runs: the list of pages then moves.
     ///
     /// # Errors
     ///
@@ -291,8 +291,8 @@ impl<B: Width> PagedSet<B> {
     ///
     /// Binary search for the `k` pages that the interval overlaps or touches. In one page, moves
     /// its runs; of several pages only the first and the last are read and changed, and those between
-    /// removed: `O(log n)`, and the list of pages moves if a page goes. Allocates only if a run is added,
-    /// or to split a page that is full.
+    /// removed: `O(log n)`, and `O(n / page)` where a page goes or is split: the list of pages then moves.
+    /// Allocates only if a run is added, or to split a page that is full.
     ///
     /// # Errors
     ///
@@ -345,8 +345,8 @@ impl<B: Width> PagedSet<B> {
     /// Removes the members of an interval, which may be empty.
     ///
     /// Binary search for the `k` pages that the interval overlaps, of which the first and the last
-    /// are cut and the others removed: `O(log n)`, and the list of pages moves if a page goes.
-    /// Allocates only if a run is split, or to join pages that have become short.
+    /// are cut and the others removed: `O(log n)`, and `O(n / page)` where a page goes or is split: the
+    /// list of pages then moves. Allocates only if a run is split, or to join pages that have become short.
     ///
     /// # Errors
     ///
@@ -395,8 +395,8 @@ impl<B: Width> PagedSet<B> {
     }
 
     /// Removes and returns the least member, or returns `None` if the set is empty. Searches nothing:
-    /// `O(1)`, where the runs of the first page may move. A page that then has no runs is passed over; once
-    /// there is one for each 16 others, the list of pages moves. Never fails.
+    /// amortized `O(1)`, where the runs of the first page may move. A page that then has no runs is
+    /// passed over; once there is one for each 16 others, the list of pages moves. Never fails.
     ///
     /// ```
     /// use intervallum::proved::examples::*;

@@ -30,7 +30,8 @@ pub enum Rule {
 }
 
 impl Rule {
-    /// Returns the variables of the rule, in order. A rule of two variables has its second at both `y` and `z`.
+    /// Returns the variables of the rule, in order. A rule of two variables has its second at both `y` and `z`. `O(1)`,
+    /// does not allocate.
     ///
     /// ```
     /// use intervallum::proved::examples::*;
@@ -44,6 +45,8 @@ impl Rule {
     /// ```
     ///
     /// # Proved
+    ///
+    /// The result is the variables of the rule, in order; a rule of two variables has its second at both `y` and `z`.
     ///
     /// ```text
     /// ensures { result ≡ places_of self.now }
@@ -59,7 +62,7 @@ impl Rule {
         }
     }
 
-    /// Returns true exactly when the rule names each of its variables once.
+    /// Returns true exactly when the rule names each of its variables once. `O(1)`, does not allocate.
     ///
     /// ```
     /// use intervallum::proved::examples::*;
@@ -73,6 +76,8 @@ impl Rule {
     /// ```
     ///
     /// # Proved
+    ///
+    /// True exactly when the rule names each of its variables once.
     ///
     /// ```text
     /// ensures { IsTrue result ↔ AreDifferent self.now }
@@ -89,7 +94,7 @@ impl Rule {
     }
 
     /// Returns true exactly for a rule that takes members only for a variable whose domain is a single number or
-    /// empty: `Differs`.
+    /// empty: `Differs`. `O(1)`, does not allocate.
     ///
     /// ```
     /// use intervallum::proved::examples::*;
@@ -103,6 +108,8 @@ impl Rule {
     /// ```
     ///
     /// # Proved
+    ///
+    /// True exactly for a `Differs`.
     ///
     /// ```text
     /// ensures { result ≡ needs_singles self.now }
@@ -118,7 +125,7 @@ impl Rule {
         }
     }
 
-    /// Returns true exactly when the rule names the variable.
+    /// Returns true exactly when the rule names the variable. `O(1)`, does not allocate.
     ///
     /// ```
     /// use intervallum::proved::examples::*;
@@ -132,6 +139,8 @@ impl Rule {
     ///
     /// # Proved
     ///
+    /// True exactly when the rule names the variable.
+    ///
     /// ```text
     /// ensures { IsTrue result ↔ NamesOf self.now variable }
     /// ```
@@ -142,7 +151,8 @@ impl Rule {
         variable == c.x || variable == c.y || variable == c.z
     }
 
-    /// Returns the first variable of the rule that is not below `count`, or `None` if all are.
+    /// Returns the first variable of the rule that is not below `count`, or `None` if all are. `O(1)`, does not
+    /// allocate.
     ///
     /// ```
     /// use intervallum::proved::examples::*;
@@ -156,6 +166,8 @@ impl Rule {
     /// ```
     ///
     /// # Proved
+    ///
+    /// The result is the first variable of the rule, in order, that is not below `count`, or `None` if all are.
     ///
     /// ```text
     /// ensures first { result ≡ first_unknown_in count (places_of self.now) }

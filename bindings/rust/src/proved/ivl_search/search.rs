@@ -122,9 +122,9 @@ impl From<AllocError> for SearchFault {
 /// `(2 p - 1) * (c / 500 + 1)` for `c` constraints, where `p` is the product of the sizes of the
 /// domains, or 1 if that is 0.
 ///
-/// Copies the domains and the constraints once, and counts for each variable how many name it. Each
-/// node costs its narrowings and a pass over the domains; memory is that of the solutions, of the
-/// domains that one branch replaces, and of the cuts of the branch.
+/// Costs a copy of the domains and the constraints, a count of those that name each variable, and
+/// for each node its narrowings and a pass over the domains. Memory is that of the solutions, of
+/// the domains that one branch replaces, and of the cuts of the branch.
 ///
 /// # Errors
 ///
@@ -149,6 +149,8 @@ impl From<AllocError> for SearchFault {
 /// ```
 ///
 /// # Proved
+///
+/// The fault names the first index, in list order, without a domain, exactly when there is one. On success, each point is a solution: it has a member of each domain, in order, and satisfies each constraint. No point is there twice. If the search ended with `All`, every solution is there. There are at most `limits.solutions` points, exactly so many if the search ended with `Solutions`, and at most `limits.nodes`. It ends with `Nodes` only if `limits.nodes` is less than `(2 p - 1) * (c / 500 + 1)`, for `c` constraints and the product `p` of the sizes of the domains, or 1 if that is 0.
 ///
 /// ```text
 /// requires { All AreDistinct constraints.now }
@@ -179,13 +181,15 @@ pub fn solutions<B: Width>(
 }
 
 /// Searches as [`solutions`] does, without its condition: returns `None` if a constraint has a
-/// variable twice.
+/// variable twice. Costs what [`solutions`] costs, and a pass over the constraints.
 ///
 /// # Errors
 ///
 /// Those of [`solutions`], and only if each constraint has three different variables.
 ///
 /// # Proved
+///
+/// `None` is returned, where nothing fails, exactly when some constraint has a variable twice. The fault names the first index, in list order, without a domain, exactly when there is one and each constraint has three different variables. Some: each point is a solution: it has a member of each domain, in order, and satisfies each constraint. No point is there twice. If the search ended with `All`, every solution is there. There are at most `limits.solutions` points, exactly so many if the search ended with `Solutions`, and at most `limits.nodes`. It ends with `Nodes` only if `limits.nodes` is less than `solutions` says.
 ///
 /// ```text
 /// ensures none { IfOk result (λ o. IsNone o ↔ (¬ (All AreDistinct constraints.now))) }
@@ -232,6 +236,8 @@ pub fn try_solutions<B: Width>(
 ///
 /// # Proved
 ///
+/// True exactly when each constraint has three different variables.
+///
 /// ```text
 /// ensures { IsTrue result ↔ All AreDistinct constraints.now }
 /// ```
@@ -243,7 +249,7 @@ pub fn all_distinct(constraints: &[Constraint]) -> bool {
 
 /// Counts the points that [`solutions`] would return with the same limits, and keeps none of them.
 /// The count is that of all solutions if the search ended with [`End::All`], and that of some of
-/// them if not.
+/// them if not. Costs what [`solutions`] costs, but for the memory of the solutions.
 ///
 /// The caller must ensure that each constraint has three different variables. Check with
 /// [`Constraint::distinct`], or [`all_distinct`] for a list.
@@ -268,6 +274,8 @@ pub fn all_distinct(constraints: &[Constraint]) -> bool {
 /// ```
 ///
 /// # Proved
+///
+/// The fault names the first index, in list order, without a domain, exactly when there is one. On success, so many different points are solutions, and if the search ended with `All`, there is no other. A solution has a member of each domain, in order, and satisfies each constraint. The count is at most `limits.solutions`, exactly that if the search ended with `Solutions`, and at most `limits.nodes`. It ends with `Nodes` only if `limits.nodes` is less than `solutions` says.
 ///
 /// ```text
 /// requires { All AreDistinct constraints.now }
@@ -307,11 +315,11 @@ pub fn count<B: Width>(
 /// The caller must ensure that each constraint has three different variables. Check with
 /// [`Constraint::distinct`], or [`all_distinct`] for a list.
 ///
-/// Copies the domains and the constraints once, and counts for each variable how many name it. Each
-/// search looks for one solution among the lower half of the numbers that the variable can still
-/// have; then these are cut to what is below it, or to the upper half if there is none. So there
-/// are at most 64 searches, which share the nodes. Memory is that of two solutions, of the domains
-/// that one branch replaces, and of the cuts of the branch.
+/// Costs a copy of the domains and the constraints, a count of those that name each variable, and
+/// at most 64 searches, which share the nodes. Each search looks for one solution among the lower
+/// half of the numbers that the variable can still have; then these are cut to what is below it, or
+/// to the upper half if there is none. Memory is that of two solutions, of the domains that one
+/// branch replaces, and of the cuts of the branch.
 ///
 /// Returns [`End::Nodes`] only if `limits.nodes` is at most `2 p * (c / 500 + 1)`, with `p` and `c`
 /// as for [`solutions`].
@@ -339,6 +347,8 @@ pub fn count<B: Width>(
 /// ```
 ///
 /// # Proved
+///
+/// The fault names the first index of the constraints, in list order, without a domain, or else `variable` if it has none, exactly when there is one. On success, the point, if there is one, is a solution: it has a member of each domain, in order, and satisfies each constraint. If the search ended with `All`, no solution gives the variable a smaller number, and without a point there is no solution. There is a point only if both limits are at least 1. If the search ended with `Solutions`, the point is the last of `limits.solutions` solutions, each with a smaller number for the variable than the one before it, or there is none if that is 0, and `limits.nodes` is no less than `limits.solutions`. It ends with `Nodes` only if `limits.nodes` is at most `2 p * (c / 500 + 1)`, for `c` constraints and the product `p` of the sizes of the domains, or 1 if that is 0.
 ///
 /// ```text
 /// requires { All AreDistinct constraints.now }
@@ -371,7 +381,8 @@ pub fn least<B: Width>(
 
 /// Returns a solution in which a variable has its greatest number, as [`least`] does one with its
 /// least: no solution gives it a greater one. Searches greater numbers first, of every variable, and
-/// so visits as many nodes as [`least`] does where all numbers have the other sign.
+/// so visits as many nodes as [`least`] does where all numbers have the other sign. Costs as much as
+/// that.
 ///
 /// The caller must ensure that each constraint has three different variables. Check with
 /// [`Constraint::distinct`], or [`all_distinct`] for a list.
@@ -398,6 +409,8 @@ pub fn least<B: Width>(
 /// ```
 ///
 /// # Proved
+///
+/// The fault names the first index of the constraints, in list order, without a domain, or else `variable` if it has none, exactly when there is one. On success, the point, if there is one, is a solution: it has a member of each domain, in order, and satisfies each constraint. If the search ended with `All`, no solution gives the variable a greater number, and without a point there is no solution. There is a point only if both limits are at least 1. If the search ended with `Solutions`, the point is the last of `limits.solutions` solutions, each with a greater number for the variable than the one before it, or there is none if that is 0, and `limits.nodes` is no less than `limits.solutions`. It ends with `Nodes` only if `limits.nodes` is at most what `least` says.
 ///
 /// ```text
 /// requires { All AreDistinct constraints.now }

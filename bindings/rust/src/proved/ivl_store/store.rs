@@ -7,6 +7,9 @@
 //! constraint once, [`Store::propagate`] by a list in rounds, and [`Store::post_all`] takes cuts
 //! and constraints one by one and replies after each whether a domain is empty.
 //!
+//! A constraint supports domains if each member of a domain that it names is in a solution of it over
+//! these domains.
+//!
 //! ```
 //! use intervallum::proved::examples::*;
 //!
@@ -78,6 +81,8 @@ impl<B: Width> Store<B> {
     ///
     /// # Proved
     ///
+    /// The domains are those that were given, in this order.
+    ///
     /// ```text
     /// ensures { result ≡ domains.items }
     /// ```
@@ -95,7 +100,8 @@ impl<B: Width> Store<B> {
         }
     }
 
-    /// Makes room for so many more variables: adding them reallocates nothing.
+    /// Makes room for so many more variables: adding them reallocates nothing. Linear in the variables
+    /// where memory is allocated, else `O(1)`.
     ///
     /// # Errors
     ///
@@ -115,6 +121,8 @@ impl<B: Width> Store<B> {
     ///
     /// # Proved
     ///
+    /// The domains stay as they are, whatever the result.
+    ///
     /// ```text
     /// ensures same { self.new ≡ self.old }
     /// ```
@@ -126,6 +134,8 @@ impl<B: Width> Store<B> {
     /// Returns the domains, in the order of the variables. `O(1)`, does not allocate.
     ///
     /// # Proved
+    ///
+    /// The slice has the domains, in order. The runs of each ascend, lie in the range, and neither overlap nor touch.
     ///
     /// ```text
     /// ensures same { result.now ≡ self.now }
@@ -156,6 +166,8 @@ impl<B: Width> Store<B> {
     /// ```
     ///
     /// # Proved
+    ///
+    /// On success, the domain is added after the others, and the result is its index: the number of variables before. If it fails, the domains are unchanged.
     ///
     /// ```text
     /// ensures index { IfOk result (λ i. i ≡ length self.old) }
@@ -188,6 +200,8 @@ impl<B: Width> Store<B> {
     /// ```
     ///
     /// # Proved
+    ///
+    /// True exactly when the domain of some variable has no run, and so no member.
     ///
     /// ```text
     /// ensures empty { IsTrue result ↔ Any (λ L. L ≡ []) self.now }

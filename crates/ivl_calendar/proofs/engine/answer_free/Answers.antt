@@ -1,10 +1,6 @@
+use Rattle.std.proofs.Common.{inr, refl}
 use Rattle.std.proofs.lemmas.Result.{on_ok_weaker}
-use Rattle.ivl_lines.specs.Words.{words_between}
-use Rattle.ivl_calendar.proofs.Answering.{free_told}
 use Rattle.ivl_calendar.proofs.engine.answer_free.Goals as goal
 
-pub returns-in-Ok : goal.returns-in-Ok
-returns-in-Ok g c =
-    on_ok_weaker c.write_spans.result
-    (λ told. (_, free_told c.args.calendar.now (words_between c.args.words.now) c.in-Some.window c.in-Ok.free c.runs.result.now told.0 c.in-Some.ensures.some c.in-Ok.ensures c.runs.ensures.same told.1, told.2))
-    c.write_spans.ensures
+pub returns-in-Err : goal.returns-in-Err
+returns-in-Err g c = on_ok_weaker c.write_fault.result (λ written. (_, inr (_, c.in-Err.ensures.err, (refl, refl)), written)) c.write_fault.ensures

@@ -3,7 +3,7 @@ use Rattle.std.proofs.lemmas.Bool.{cases_lt}
 use Rattle.std.specs.Prelude.{OnOk}
 use Rattle.std.specs.declared.alloc.AllocError.{AllocError}
 use Rattle.ivl_laws.proofs.Slices.{same_item}
-use Rattle.ivl_map.proofs.Laying.{both_cut, kept_length, two_put}
+use Rattle.ivl_map.proofs.Laying.{both_cut, kept_length}
 use Rattle.ivl_map.proofs.Leaving.{two_left}
 use Rattle.ivl_map.proofs.writes.lay_between.Goals as goal
 
@@ -22,24 +22,17 @@ returns-then-end-start-eq1-clause-ok g c = λ d.
     let copy = c.in_ok-copy.copy in
     let P : (ℤ × ℤ) × g.row.V.Denot → Type 0 = λ f. g.V.PartialEq.eq f.1 copy ≡ true in
     let h : (ℤ × ℤ) × g.row.V.Denot = (c.args.high, copy) in
-    let M = c.put_in.new.entries.items in
-    let N = c.put_in-then-end-start-eq1.new.entries.items in
-    let Q : Result (Unit {0}) AllocError → Type 0 = λ t. OnOk t (M ≡ take j E ++ (h ∷ drop j E)) in
-    let S : Result (Unit {0}) AllocError → Type 0 = λ t. OnOk t (N ≡ take j M ++ (r ∷ drop j M)) in
-    let R : List ((ℤ × ℤ) × g.row.V.Denot) → Type 0 = λ L. OnOk c.put_in.result (M ≡ take j L ++ (h ∷ drop j L)) in
-    let first : M ≡ take j E ++ (h ∷ drop j E) = subst Q c.unwrap.ensures (subst R c.reserve.ensures.items c.put_in.ensures.ok) in
-    let second : N ≡ take j M ++ (r ∷ drop j M) = subst S c.unwrap-then-end-start-eq1.ensures c.put_in-then-end-start-eq1.ensures.ok in
     let there : e ≡ get_or E (j - 1) d = c.index.ensures ∙ same_item E i e d less ∙ ap (λ (n : ℕ). get_or E n d) (omega (arith, next)) in
     record {
       last = copy;
       is_last = subst P there c.in_ok-copy.ensures;
-      list = two_left (λ f. (c.args.low, f.1)) E N c.keep_first.new.entries.items (r ∷ h ∷ drop j E) i j d less next
-          (two_put E M N (h ∷ drop j E) r j most first second)
+      list = two_left (λ f. (c.args.low, f.1)) E c.put_two.new.entries.items c.keep_first.new.entries.items (r ∷ h ∷ drop j E) i j d less next
+          c.in_ok-put_two.ensures.ok
           (c.keep_first.ensures.items d);
     }
 
-pub unwrap-requires-2 : goal.unwrap-requires-2
-unwrap-requires-2 g c =
+pub unwrap-requires : goal.unwrap-requires
+unwrap-requires g c =
     let start = c.args.start in
     let end = c.args.end in
     ⊎_elim
@@ -75,7 +68,7 @@ returns-clause-ok g c = λ d.
       is_last = g.met.V.Eq.laws.refl last.1;
       list = both_cut (λ f. (c.args.low, f.1)) E M D C ((c.args.high, last.1) ∷ drop j E) r i (j - 1) (i + 1) d (omega (arith, order, other)) (omega (arith, order, most)) (omega arith) (omega (arith, order, other))
           (subst R c.make_room.ensures.items (c.keep_first-2.ensures.items d)) (c.keep_first-3.ensures.items d)
-          (subst T c.unwrap-2.ensures c.replace.ensures.ok);
+          (subst T c.unwrap.ensures c.replace.ensures.ok);
     }
 
 pub replace-requires-clause-at_most : goal.replace-requires-clause-at_most

@@ -1,7 +1,10 @@
-use Rattle.std.proofs.Common.{◌++◌, length, map}
+use Rattle.std.proofs.Common.{None, ◌++◌, length, map}
 use Rattle.std.specs.Prelude.{string_bytes}
 use Rattle.std.proofs.lemmas.Result.{on_ok_weaker}
 use Rattle.ivl_store_lines.specs.Solved.{end_line, point_lines}
+use Rattle.ivl_store_lines.specs.Printed.{told_line}
+use Rattle.ivl_store_lines.specs.Requests.{solve}
+use Rattle.ivl_store_lines.proofs.Refusing.{no_memory_for}
 use Rattle.ivl_store_lines.proofs.Answering.{solved}
 use Rattle.ivl_store_lines.proofs.engine.answer_solve.Goals as goal
 
@@ -16,3 +19,7 @@ returns-in-Ok g c =
       written,
     ))
     c.write_solutions.ensures
+
+pub returns-in-Err : goal.returns-in-Err
+returns-in-Err g c =
+    on_ok_weaker c.write_fault.result (λ written. (told_line None, no_memory_for (solve c.args.most) c.args.solver.now, written)) c.write_fault.ensures

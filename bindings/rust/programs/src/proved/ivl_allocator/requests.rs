@@ -3,30 +3,81 @@
 
 #[allow(unused_imports)]
 use crate::rattle::prelude::*;
+use crate::proved::ivl_allocator::faults::Fault;
 use crate::proved::intervallum::interval::Interval;
 use crate::proved::intervallum::ops::Range;
-use crate::proved::ivl_lines::{number_from, one_word, two_words};
+use crate::proved::ivl_lines::{next_word, number_from, one_word, two_words};
 
-/// Returns how many numbers `take` asks for, or `None` if the words after it are not one number from 1 to `most`.
-pub fn count_from(words: &str, most: u64) -> Option<u64> {
-    let count = number_within(one_word(words)?, most)?;
-    if count > 0 { Some(count) } else { None }
+const TAKE: &str = "take COUNT, take COUNT at NUMBER or take COUNT above NUMBER";
+
+const GIVE: &str = "give FIRST LAST";
+
+/// Returns whether the first word of a line begins a comment: with `#`, which is 35.
+pub fn is_comment(name: &str) -> bool {
+    name.starts_with('#')
 }
 
-/// Returns the numbers that `give` names, or `None` if the words after it are not two numbers in order, from `first` to
-/// `last`, which is no more than a set over `u64` can hold.
-pub fn given_from(words: &str, first: u64, last: u64) -> Option<Interval<u64>> {
-    let (lower, upper) = two_words(words)?;
-    let (lower, upper) = (number_within(lower, last)?, number_within(upper, last)?);
-    if first <= lower && lower <= upper {
-        Some(Interval::new(lower, upper))
-    } else {
-        None
+/// What `take` asks for: how many numbers in a row, and where.
+#[derive(Clone, Copy)]
+pub enum Take {
+    /// The lowest so many.
+    Lowest(u64),
+    /// So many from a number on.
+    At(u64, u64),
+    /// The lowest so many above a number.
+    Above(u64, u64),
+}
+
+/// Reads the words after `take`: from 1 to `most` numbers, at or above a number from `first` to `last` if there is one.
+pub fn taking_from(words: &str, first: u64, last: u64, most: u64) -> Result<Take, Fault<'_>> {
+    let Some((count, rest)) = next_word(words) else {
+        return Err(Fault::Form(TAKE));
+    };
+    let count = number_within(count, 1, most)?;
+    match next_word(rest) {
+        None => Ok(Take::Lowest(count)),
+        Some((how, places)) => place_from(count, how, places, first, last),
     }
 }
 
-/// The number that a word is, or `None` if it is not a number from 0 to `most`.
-fn number_within(word: &str, most: u64) -> Option<u64> {
-    let number = u64::try_from(number_from(word)?).ok()?;
-    if number <= most { Some(number) } else { None }
+// Where so many numbers are to be taken, by the word after the count and those after it.
+fn place_from<'a>(
+    count: u64,
+    how: &'a str,
+    places: &'a str,
+    first: u64,
+    last: u64,
+) -> Result<Take, Fault<'a>> {
+    let Some(place) = one_word(places) else {
+        return Err(Fault::Form(TAKE));
+    };
+    match how {
+        "at" => Ok(Take::At(count, number_within(place, first, last)?)),
+        "above" => Ok(Take::Above(count, number_within(place, first, last)?)),
+        _ => Err(Fault::Form(TAKE)),
+    }
+}
+
+/// Reads the words after `give`: two numbers in order, from `first` to `last`, which is no more than a set over `u64`
+/// can hold.
+pub fn given_from(words: &str, first: u64, last: u64) -> Result<Interval<u64>, Fault<'_>> {
+    let Some((lower, upper)) = two_words(words) else {
+        return Err(Fault::Form(GIVE));
+    };
+    let lower = number_within(lower, first, last)?;
+    let upper = number_within(upper, lower, last)?;
+    Ok(Interval::new(lower, upper))
+}
+
+/// The number that a word is, from `least` to `most`.
+fn number_within(word: &str, least: u64, most: u64) -> Result<u64, Fault<'_>> {
+    let Some(number) = number_from(word) else {
+        return Err(Fault::Number(word));
+    };
+    match u64::try_from(number) {
+        Ok(number) if number < least => Err(Fault::Below(word, least)),
+        Ok(number) if most < number => Err(Fault::Above(word, most)),
+        Ok(number) => Ok(number),
+        Err(_) => Err(Fault::Below(word, least)),
+    }
 }

@@ -3,8 +3,9 @@
 
 #[allow(unused_imports)]
 use crate::rattle::prelude::*;
+use crate::proved::ivl_blocks::helps::write_help;
 use crate::proved::intervallum::interval::Interval;
-use crate::proved::ivl_allocator::{all_free, give, take, write_run};
+use crate::proved::ivl_allocator::{Fault, all_free, give, is_comment, take, write_fault, write_run};
 use crate::proved::ivl_lines::{AnswersCommands, SessionFault, next_word, serve};
 use crate::proved::ivl_paged::PagedSet;
 use crate::rattle::std::alloc::Global;
@@ -34,11 +35,13 @@ impl AnswersCommands for Blocks {
         writer: &mut W,
     ) -> io::Result<()> {
         match name {
-            "take" => take(&mut self.free, COUNT, words, writer),
-            "give" => give(&mut self.free, "blocks", 0, LAST, words, writer),
+            "take" => take(&mut self.free, 0, LAST, COUNT, words, writer),
+            "give" => give(&mut self.free, 0, LAST, words, writer),
             "free" => show(&self.free, words, writer),
             "largest" => show_longest(&self.free, words, writer),
-            _ => writer.write_all(b"error: write take COUNT, give FIRST LAST, free or largest\n"),
+            "help" => write_help(writer, words),
+            _ if is_comment(name) => Ok(()),
+            _ => write_fault(writer, &Fault::Command(name)),
         }
     }
 }
@@ -63,7 +66,7 @@ pub fn session<R: Read, W: Write>(
 /// Answers `free`, given the words after it: how many blocks are free, and in how many runs.
 fn show<W: Write>(free: &PagedSet<u64>, words: &str, writer: &mut W) -> io::Result<()> {
     match next_word(words) {
-        Some(_) => writer.write_all(b"error: write free\n"),
+        Some(_) => write_fault(writer, &Fault::Form("free")),
         None => write_free(writer, free),
     }
 }
@@ -71,13 +74,18 @@ fn show<W: Write>(free: &PagedSet<u64>, words: &str, writer: &mut W) -> io::Resu
 /// Writes how many blocks are free, and in how many runs.
 fn write_free<W: Write>(writer: &mut W, free: &PagedSet<u64>) -> io::Result<()> {
     let (size, runs) = (free.size(), free.interval_count());
-    writeln!(writer, "{size} free in {runs} runs")
+    let word = word_for(runs);
+    writeln!(writer, "{size} free in {runs} {word}")
+}
+
+fn word_for(runs: usize) -> &'static str {
+    if runs == 1 { "run" } else { "runs" }
 }
 
 /// Answers `largest`, given the words after it: the lowest of the longest runs, or `none`.
 fn show_longest<W: Write>(free: &PagedSet<u64>, words: &str, writer: &mut W) -> io::Result<()> {
     if next_word(words).is_some() {
-        return writer.write_all(b"error: write largest\n");
+        return write_fault(writer, &Fault::Form("largest"));
     }
     match longest(free) {
         Some(run) => write_run(writer, &run),

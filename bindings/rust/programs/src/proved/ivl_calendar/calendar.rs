@@ -5,6 +5,7 @@
 use crate::rattle::prelude::*;
 use crate::proved::ivl_calendar::names::write_days_of;
 use crate::proved::ivl_calendar::rooms::{Room, free_in_all};
+use crate::proved::ivl_calendar::shown::write_rooms;
 use crate::proved::intervallum::interval::Interval;
 use crate::proved::intervallum::interval_set::IntervalSet;
 use crate::rattle::std::alloc::{AllocError, Global};
@@ -66,9 +67,30 @@ impl Calendar {
         }
     }
 
+    /// Frees a room on all of these days, and returns whether it was booked on one of them, or `None` if there is no
+    /// such room. The caller must ensure that the days are in order.
+    ///
+    /// # Errors
+    ///
+    /// Fails only if allocation fails. Nothing is freed after an error.
+    pub fn cancel(&mut self, name: &str, days: Interval<i32>) -> Result<Option<bool>, AllocError> {
+        let Some(room) = self.rooms.get_mut(name) else {
+            return Ok(None);
+        };
+        match room.cancel(days) {
+            Ok(done) => Ok(Some(done)),
+            Err(error) => Err(error),
+        }
+    }
+
     /// Returns the days of a window on which all rooms are free. Fails only if allocation fails.
     pub fn free_within(&self, window: Interval<i32>) -> Result<IntervalSet<i32>, AllocError> {
         free_in_all(self.alloc, &self.rooms, window)
+    }
+
+    /// Writes the names of the rooms in their order, as a line. Does not allocate.
+    pub fn write_rooms<W: Write>(&self, writer: &mut W) -> io::Result<()> {
+        write_rooms(writer, &self.rooms)
     }
 
     /// Writes the days that are booked for a name, as a line. Looks at each booking with a name. Does not allocate.

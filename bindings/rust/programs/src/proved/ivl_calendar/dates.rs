@@ -3,6 +3,7 @@
 
 #[allow(unused_imports)]
 use crate::rattle::prelude::*;
+use crate::proved::ivl_calendar::faults::Fault;
 use crate::proved::intervallum::interval::Interval;
 use crate::proved::intervallum::ops::Range;
 use jiff::civil::Date;
@@ -38,18 +39,21 @@ fn has_text(date: Date, word: &str) -> bool {
     DateTimePrinter::new().date_text(date.to_plain()).as_str() == word
 }
 
-/// Returns the days from one date to another, or `None` if a word is not a date or they are not in
-/// order.
-pub fn days_from(first: &str, last: &str) -> Option<Interval<i32>> {
-    let Some(first) = day_from(first) else {
-        return None;
+/// Returns the days from one date to another.
+///
+/// # Errors
+///
+/// `Day` if a word is not the date of a day, and `Order` if the last day is before the first.
+pub fn days_from<'a>(first: &'a str, last: &'a str) -> Result<Interval<i32>, Fault<'a>> {
+    let Some(from) = day_from(first) else {
+        return Err(Fault::Day(first));
     };
-    let Some(last) = day_from(last) else {
-        return None;
+    let Some(to) = day_from(last) else {
+        return Err(Fault::Day(last));
     };
-    if first <= last {
-        Some(Interval::new(first, last))
+    if from <= to {
+        Ok(Interval::new(from, to))
     } else {
-        None
+        Err(Fault::Order(first, last))
     }
 }

@@ -98,7 +98,7 @@ fn is_for(booking: &(Interval<i32>, String), who: &str) -> bool {
     booking.1.as_str() == who
 }
 
-// What stands before a part of an answer.
-fn comma_before(is_first: bool) -> &'static str {
+/// Returns what stands before a part of an answer: a comma, unless it is the first.
+pub fn comma_before(is_first: bool) -> &'static str {
     if is_first { "" } else { ", " }
 }

@@ -15,7 +15,8 @@ use crate::rattle::std::collections::BTreeMap;
 /// name, and the list of the other bookings.
 ///
 /// The days without a name stand in a `PagedSet`, so that bookings of a room may come in any order. A map has the
-/// others: one of `n` bookings with a name moves those that come later, `O(n)`.
+/// others: one of `n` bookings with a name moves those that come later, `O(n)`. All of these days are days of the
+/// calendar.
 pub struct Room {
     alloc: Global,
     unnamed: PagedSet<i32>,
@@ -60,9 +61,14 @@ impl Room {
         }
         match who {
             Some(name) => self.add_named(days, name)?,
-            None => self.unnamed.insert_interval(days)?,
+            None => self.add_unnamed(days)?,
         }
         Ok(true)
+    }
+
+    // Books days without a name, also those that were booked so.
+    fn add_unnamed(&mut self, days: Interval<i32>) -> Result<(), AllocError> {
+        self.unnamed.insert_interval(days)
     }
 
     // Books days for a name, also those that were booked.
@@ -71,9 +77,67 @@ impl Room {
         self.named.insert(days, name)
     }
 
+    /// Frees the room on all of these days, of whatever bookings they are, and returns whether it was booked on one of
+    /// them. The caller must ensure that the days are in order.
+    ///
+    /// `O(log n)` for `n` runs of booked days; a booking with a name that is split or goes moves those that come later.
+    /// Where the days have both bookings with a name and some without, the runs without a name are copied.
+    ///
+    /// # Errors
+    ///
+    /// Fails only if allocation fails. Nothing is freed after an error, or if the result is false.
+    pub fn cancel(&mut self, days: Interval<i32>) -> Result<bool, AllocError> {
+        if self.is_free(&days) {
+            return Ok(false);
+        }
+        self.free(days)?;
+        Ok(true)
+    }
+
+    // Frees days, also those that were free.
+    fn free(&mut self, days: Interval<i32>) -> Result<(), AllocError> {
+        if self.has_all_named(&days) {
+            return self.remove_named(days);
+        }
+        if self.has_no_named(&days) {
+            return self.remove_unnamed(days);
+        }
+        self.remove_both(days)
+    }
+
+    // Whether none of these days is booked without a name.
+    fn has_all_named(&self, days: &Interval<i32>) -> bool {
+        self.unnamed.in_whole();
+        is_free_of(&self.unnamed, days)
+    }
+
+    // Whether none of these days is booked for a name.
+    fn has_no_named(&self, days: &Interval<i32>) -> bool {
+        self.first_named(days).is_none()
+    }
+
+    // Frees days of the bookings with a name.
+    fn remove_named(&mut self, days: Interval<i32>) -> Result<(), AllocError> {
+        self.named.remove(days)
+    }
+
+    // Frees days of those that are booked without a name.
+    fn remove_unnamed(&mut self, days: Interval<i32>) -> Result<(), AllocError> {
+        self.unnamed.remove_interval(days)
+    }
+
+    // Frees days of both: of a copy first, since the second step may fail too.
+    fn remove_both(&mut self, days: Interval<i32>) -> Result<(), AllocError> {
+        let mut unnamed = self.unnamed.try_clone()?;
+        unnamed.remove_interval(days)?;
+        self.named.remove(days)?;
+        self.unnamed = unnamed;
+        Ok(())
+    }
+
     /// Returns whether the room is free on all of these days.
     fn is_free(&self, days: &Interval<i32>) -> bool {
-        is_free_of(&self.unnamed, days) && self.first_named(days).is_none()
+        self.has_all_named(days) && self.first_named(days).is_none()
     }
 
     /// Returns the first booking with a name that has one of these days, or `None` if there is none: all days
@@ -108,6 +172,11 @@ impl Room {
     /// Returns the bookings with a name, in ascending order. Does not allocate.
     pub fn named(&self) -> &[(Interval<i32>, String)] {
         self.named.entries()
+    }
+
+    /// Returns the days that are booked without a name. `O(n)` for `n` runs of them. Fails only if allocation fails.
+    pub fn days_without_name(&self) -> Result<IntervalSet<i32>, AllocError> {
+        self.unnamed.to_set()
     }
 
     // Takes the booked days of a window out of days of the window.

@@ -17,8 +17,8 @@ pub enum Start {
     Other,
 }
 
-/// Returns what a program is asked for, from its first argument and whether there are more. Does not
-/// allocate.
+/// Returns what a program is asked for, from its first argument and whether there are more. `O(1)`.
+/// Does not allocate.
 ///
 /// ```
 /// use intervallum_programs::proved::examples::*;

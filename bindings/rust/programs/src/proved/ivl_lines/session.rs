@@ -62,7 +62,7 @@ pub trait Answers {
 const PIECE: usize = 65536;
 
 /// Has each line of the input answered. What is written is flushed before each read, before each
-/// line that may take long, and at the end.
+/// line that may take long, and at the end. Linear in the bytes that are read, beside the answers.
 ///
 /// A line is what stands between newlines; what follows the last newline is a line too. It is kept
 /// only if it does not end in the piece that it begins in. A line for whose bytes there is no memory

@@ -3,7 +3,8 @@
 
 #[allow(unused_imports)]
 use crate::rattle::prelude::*;
-use crate::proved::ivl_allocator::{all_free, give, take};
+use crate::proved::ivl_ports::helps::write_help;
+use crate::proved::ivl_allocator::{Fault, all_free, give, is_comment, take, write_fault};
 use crate::proved::ivl_lines::{AnswersCommands, SessionFault, next_word, serve};
 use crate::proved::ivl_paged::PagedSet;
 use crate::rattle::std::alloc::Global;
@@ -33,10 +34,12 @@ impl AnswersCommands for Ports {
         writer: &mut W,
     ) -> io::Result<()> {
         match name {
-            "take" => take(&mut self.free, LAST, words, writer),
-            "give" => give(&mut self.free, "ports", FIRST, LAST, words, writer),
+            "take" => take(&mut self.free, FIRST, LAST, LAST, words, writer),
+            "give" => give(&mut self.free, FIRST, LAST, words, writer),
             "free" => show(&self.free, words, writer),
-            _ => writer.write_all(b"error: write take COUNT, give FIRST LAST or free\n"),
+            "help" => write_help(writer, words),
+            _ if is_comment(name) => Ok(()),
+            _ => write_fault(writer, &Fault::Command(name)),
         }
     }
 }
@@ -61,7 +64,7 @@ pub fn session<R: Read, W: Write>(
 /// Answers `free`, given the words after it: how many ports are free, and their runs.
 fn show<W: Write>(free: &PagedSet<u64>, words: &str, writer: &mut W) -> io::Result<()> {
     match next_word(words) {
-        Some(_) => writer.write_all(b"error: write free\n"),
+        Some(_) => write_fault(writer, &Fault::Form("free")),
         None => write_free(writer, free),
     }
 }

@@ -3,6 +3,7 @@
 
 #[allow(unused_imports)]
 use crate::rattle::prelude::*;
+use crate::proved::ivl_ranges::helps::{is_comment, write_help};
 use crate::proved::ivl_ranges::reply::write_told;
 use crate::proved::ivl_ranges::state::Access;
 use crate::proved::ivl_lines::{AnswersCommands, SessionFault, serve};
@@ -24,7 +25,11 @@ impl AnswersCommands for Access {
         words: &str,
         writer: &mut W,
     ) -> io::Result<()> {
-        write_told(writer, &self.carry_out(name, words))
+        match name {
+            "help" => write_help(writer, words),
+            _ if is_comment(name) => Ok(()),
+            _ => write_told(writer, name, &self.carry_out(name, words)),
+        }
     }
 }
 

@@ -3,6 +3,7 @@
 
 #[allow(unused_imports)]
 use crate::rattle::prelude::*;
+use crate::proved::ivl_ranges::helps::write_unknown;
 use crate::proved::intervallum::interval_set::IntervalSet;
 use crate::proved::intervallum::ops::IsEmpty;
 use crate::rattle::std::alloc::AllocError;
@@ -44,9 +45,14 @@ impl From<AllocError> for Fault {
     }
 }
 
-/// Writes the answer to a line.
-pub fn write_told<W: Write>(writer: &mut W, told: &Result<Reply, Fault>) -> io::Result<()> {
+/// Writes the answer to a line, given its first word.
+pub fn write_told<W: Write>(
+    writer: &mut W,
+    name: &str,
+    told: &Result<Reply, Fault>,
+) -> io::Result<()> {
     match told {
+        Err(Fault::Command) => write_unknown(writer, name),
         Ok(Reply::Done) => writer.write_all(b"ok\n"),
         Ok(Reply::Safe) => writer.write_all(b"safe\n"),
         Ok(Reply::SafeFor(safe)) => write_safe_for(writer, safe),
@@ -68,7 +74,7 @@ fn write_fault<W: Write>(writer: &mut W, fault: Fault) -> io::Result<()> {
 
 fn fault_text(fault: Fault) -> &'static str {
     match fault {
-        Fault::Command => "write i RANGES, k RANGES, length NUMBER or check",
+        Fault::Command => "unknown command",
         Fault::Ranges => "write ranges such as -1..1 5..5, with the lower end first",
         Fault::Length => "write length NUMBER, from 0 to 4294967295",
         Fault::Check => "write check",

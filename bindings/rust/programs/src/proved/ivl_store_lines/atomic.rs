@@ -67,11 +67,11 @@ pub fn settle_atomically(network: &mut Network<i64>, limit: u64) -> Result<Progr
 
 /// Narrows the domains and drops the mark, or takes the network back to it.
 fn settle_to(network: &mut Network<i64>, mark: usize, limit: u64) -> Result<Progress, AllocError> {
-    // for the prover: no more rules are unsettled than there are
-    network.rules();
     match network.settle_within(limit) {
         Ok(reached) => {
             network.drop_marks(mark);
+            // for the prover: each rule is settled or not
+            network.rules();
             Ok(progress_of(reached))
         }
         Err(_) => Err(taken_back(network, mark)),

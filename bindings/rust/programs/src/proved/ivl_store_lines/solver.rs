@@ -12,7 +12,7 @@ use crate::proved::ivl_store_lines::request::Request;
 use indexmap::IndexSet;
 use crate::proved::intervallum::interval::Interval;
 use crate::proved::intervallum::interval_set::{IntervalSet, ToIntervalSet};
-use crate::proved::ivl_lines::next_word;
+use crate::proved::ivl_lines::{next_word, number_from};
 use crate::proved::ivl_network::network::Network;
 use crate::proved::ivl_rules::rules::Rule;
 use crate::proved::ivl_store::store::Constraint;
@@ -48,7 +48,8 @@ impl Solver {
         self.alloc
     }
 
-    /// Carries out what a line asks for. A fault changes nothing.
+    /// Carries out what a line asks for. A fault changes nothing, but that rules which were not settled all may
+    /// have to be looked at anew where an allocation fails.
     pub fn carry_out<'a>(&mut self, request: Request<'a>) -> Result<(), Fault<'a>> {
         match request {
             Request::Var(name, pairs) => self.define(name, &pairs),
@@ -116,6 +117,9 @@ impl Solver {
     fn define<'a>(&mut self, name: &'a str, pairs: &[(i64, i64)]) -> Result<(), Fault<'a>> {
         if self.index_of(name).is_some() {
             return Err(Fault::Defined(name));
+        }
+        if number_from(name).is_some() {
+            return Err(Fault::Numeral(name));
         }
         let domain = set_of(self.alloc, pairs)?;
         self.add(name, domain)?;
@@ -228,22 +232,22 @@ impl Solver {
         self.names.get_index_of(name)
     }
 
-    /// Cuts a domain, and narrows all. If allocation fails, nothing changes.
+    /// Cuts a domain, and narrows all. If allocation fails, all is taken back.
     fn restrict(&mut self, variable: usize, allowed: &IntervalSet<i64>) -> Result<(), AllocError> {
         let progress = restrict_atomically(&mut self.network, variable, allowed, self.limit)?;
         self.progress = progress;
         Ok(())
     }
 
-    /// Adds rules, and narrows the domains. If allocation fails, nothing changes.
+    /// Adds rules, and narrows the domains. If allocation fails, all is taken back.
     fn require(&mut self, rules: &[Rule]) -> Result<(), AllocError> {
         let progress = require_atomically(&mut self.network, rules, self.limit)?;
         self.progress = progress;
         Ok(())
     }
 
-    /// Narrows the domains by the rules, within the limit. If allocation fails, nothing
-    /// changes.
+    /// Narrows the domains by the rules, within the limit. If allocation fails, all is
+    /// taken back.
     fn settle(&mut self) -> Result<(), AllocError> {
         let progress = settle_atomically(&mut self.network, self.limit)?;
         self.progress = progress;
@@ -260,7 +264,7 @@ fn rule_of(relation: Relation, x: usize, y: usize, by: i64) -> Rule {
     }
 }
 
-/// The union of the pairs; a reversed pair adds nothing.
+/// The union of the pairs, in none of which the first bound is above the second.
 fn set_of<'a>(alloc: Global, pairs: &[(i64, i64)]) -> Result<IntervalSet<i64>, Fault<'a>> {
     if !pairs
         .iter()
@@ -268,5 +272,21 @@ fn set_of<'a>(alloc: Global, pairs: &[(i64, i64)]) -> Result<IntervalSet<i64>, F
     {
         return Err(Fault::Range);
     }
+    if let Some(pair) = first_crossed(pairs) {
+        return Err(Fault::Crossed(pair.0, pair.1));
+    }
     Ok(pairs.to_interval_set(alloc)?)
+}
+
+/// The first pair whose first bound is above the second.
+
+fn first_crossed(pairs: &[(i64, i64)]) -> Option<(i64, i64)> {
+    let mut rest = pairs;
+    while let [pair, others @ ..] = rest {
+        if pair.0 > pair.1 {
+            return Some(*pair);
+        }
+        rest = others;
+    }
+    None
 }

@@ -348,7 +348,7 @@ impl<B: Width> ToIntervalSet<B> for (B, B) {
 ///
 /// Words: [`IsInRange`](crate::definitions#IsInRange).
 impl<B: Width> ToIntervalSet<B> for &[(B, B)] {
-    /// Returns true exactly when `Interval::in_range` is true of each pair.
+    /// Returns true exactly when `Interval::in_range` is true of each pair. `O(n)` for `n` pairs.
     ///
     /// # Proved
     ///
@@ -357,8 +357,8 @@ impl<B: Width> ToIntervalSet<B> for &[(B, B)] {
         are_in_range(self)
     }
 
-    /// Returns the set of the members of every pair. The pairs are unchanged. Fails only if
-    /// allocation fails.
+    /// Returns the set of the members of every pair. The pairs are unchanged. `O(n log n)` for `n`
+    /// pairs. Fails only if allocation fails.
     ///
     /// # Proved
     ///
@@ -378,7 +378,7 @@ impl<B: Width> ToIntervalSet<B> for &[(B, B)] {
 ///
 /// Words: [`IsInRange`](crate::definitions#IsInRange).
 impl<B: Width> ToIntervalSet<B> for Vec<(B, B)> {
-    /// Returns true exactly when `Interval::in_range` is true of each pair.
+    /// Returns true exactly when `Interval::in_range` is true of each pair. `O(n)` for `n` pairs.
     ///
     /// # Proved
     ///
@@ -387,8 +387,8 @@ impl<B: Width> ToIntervalSet<B> for Vec<(B, B)> {
         are_in_range(self.as_slice())
     }
 
-    /// Returns the set of the members of every pair. The vector is consumed. Fails only if
-    /// allocation fails.
+    /// Returns the set of the members of every pair. The vector is consumed. `O(n log n)` for `n`
+    /// pairs. Fails only if allocation fails.
     ///
     /// # Proved
     ///
@@ -408,7 +408,7 @@ impl<B: Width> ToIntervalSet<B> for Vec<(B, B)> {
 ///
 /// Words: [`IsInRange`](crate::definitions#IsInRange).
 impl<B: Width, const N: usize> ToIntervalSet<B> for [(B, B); N] {
-    /// Returns true exactly when `Interval::in_range` is true of each pair.
+    /// Returns true exactly when `Interval::in_range` is true of each pair. `O(n)` for `n` pairs.
     ///
     /// # Proved
     ///
@@ -417,7 +417,8 @@ impl<B: Width, const N: usize> ToIntervalSet<B> for [(B, B); N] {
         are_in_range(self)
     }
 
-    /// Returns the set of the members of every pair. Fails only if allocation fails.
+    /// Returns the set of the members of every pair. `O(n log n)` for `n` pairs. Fails only if
+    /// allocation fails.
     ///
     /// # Proved
     ///

@@ -149,12 +149,12 @@ impl<B: Width> IntervalSet<B> {
     }
 
     /// Adds the members of an interval, as [`IntervalSet::insert_interval`] does. The search begins at
-    /// a place, which is a number of runs and may be any: it changes how long the search takes, and
-    /// nothing else.
+    /// the run with the index `place`, which may be any number: it changes how long the search takes,
+    /// and nothing else.
     ///
-    /// Where the runs before the place lie below the interval and do not touch it, the search goes on
+    /// Where the runs before that one lie below the interval and do not touch it, the search goes on
     /// from there by steps that are doubled: `O(log (d + 2) + k)`, if the first of the `k` runs that
-    /// the interval overlaps or touches stands `d` places further. Else it is the binary search of all.
+    /// the interval overlaps or touches stands `d` runs further. Else it is the binary search of all.
     /// If the number of runs changes, those above the interval move, as they do there.
     ///
     /// # Errors
@@ -175,7 +175,7 @@ impl<B: Width> IntervalSet<B> {
     ///
     /// # Proved
     ///
-    /// On success, exactly the numbers of the interval are added, whatever the place; on an error the set is unchanged. It succeeds if the interval is empty, or overlaps or touches a run.
+    /// On success, exactly the numbers of the interval are added, whatever `place` is; on an error the set is unchanged. It succeeds if the interval is empty, or overlaps or touches a run.
     ///
     /// ```text
     /// ensures ok { OnOk result (IsRunsOf self.new (Union (Covers self.old) (IsBetween interval))) }
@@ -244,12 +244,12 @@ impl<B: Width> IntervalSet<B> {
     }
 
     /// Removes the members of an interval, as [`IntervalSet::remove_interval`] does. The search begins
-    /// at a place, which is a number of runs and may be any: it changes how long the search takes, and
-    /// nothing else.
+    /// at the run with the index `place`, which may be any number: it changes how long the search takes,
+    /// and nothing else.
     ///
-    /// Where the runs before the place lie below the interval, the search goes on from there by steps
+    /// Where the runs before that one lie below the interval, the search goes on from there by steps
     /// that are doubled: `O(log (d + 2) + k)`, if the first of the `k` runs that the interval overlaps
-    /// stands `d` places further. Else it is the binary search of all. If the number of runs changes,
+    /// stands `d` runs further. Else it is the binary search of all. If the number of runs changes,
     /// those above the interval move, as they do there.
     ///
     /// # Errors
@@ -270,7 +270,7 @@ impl<B: Width> IntervalSet<B> {
     ///
     /// # Proved
     ///
-    /// On success, exactly the numbers of the interval are removed, whatever the place; on an error the set is unchanged. It succeeds if the interval is empty, and unless it lies inside a run and splits it.
+    /// On success, exactly the numbers of the interval are removed, whatever `place` is; on an error the set is unchanged. It succeeds if the interval is empty, and unless it lies inside a run and splits it.
     ///
     /// ```text
     /// ensures ok { OnOk result (IsRunsOf self.new (Without (Covers self.old) (IsBetween interval))) }
@@ -302,7 +302,7 @@ impl<B: Width> IntervalSet<B> {
         self.replace(start, end, below, above)
     }
 
-    /// Removes all members and keeps the capacity. Does not allocate.
+    /// Removes all members and keeps the capacity. `O(1)`. Does not allocate.
     ///
     /// ```
     /// use intervallum::proved::examples::*;

@@ -148,6 +148,7 @@ impl<B: Width> ToIntervalSet<B> for RangeToInclusive<B> {
 /// Words: [`IsInRange`](crate::definitions#IsInRange).
 impl<B: Width> ToIntervalSet<B> for &[RangeInclusive<B>] {
     /// Returns true exactly when `Interval::in_range` is true of the start and the end of each range.
+    /// `O(n)` for `n` ranges.
     ///
     /// # Proved
     ///
@@ -179,6 +180,7 @@ impl<B: Width> ToIntervalSet<B> for &[RangeInclusive<B>] {
 /// Words: [`IsInRange`](crate::definitions#IsInRange).
 impl<B: Width> ToIntervalSet<B> for Vec<RangeInclusive<B>> {
     /// Returns true exactly when `Interval::in_range` is true of the start and the end of each range.
+    /// `O(n)` for `n` ranges.
     ///
     /// # Proved
     ///
@@ -210,6 +212,7 @@ impl<B: Width> ToIntervalSet<B> for Vec<RangeInclusive<B>> {
 /// Words: [`IsInRange`](crate::definitions#IsInRange).
 impl<B: Width, const N: usize> ToIntervalSet<B> for [RangeInclusive<B>; N] {
     /// Returns true exactly when `Interval::in_range` is true of the start and the end of each range.
+    /// `O(n)` for `n` ranges.
     ///
     /// # Proved
     ///

@@ -12,9 +12,9 @@ use crate::proved::intervallum::width::Width;
 use crate::proved::ivl_merges::merges::intersection;
 use crate::rattle::std::alloc::AllocError;
 
-/// Returns the common members of the runs left in two walks. Advances at most once for each of
-/// these runs, and reserves as many runs once. The result has the allocator of the first walk.
-/// Fails only if allocation fails.
+/// Returns the common members of the runs left in two walks. `O(n + m)` for these `n` and `m` runs:
+/// advances at most once for each, and reserves as many runs once. The result has the allocator of
+/// the first walk. Fails only if allocation fails.
 ///
 /// ```
 /// use intervallum::proved::examples::*;

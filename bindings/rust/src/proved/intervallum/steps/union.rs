@@ -11,9 +11,9 @@ use crate::proved::intervallum::width::Width;
 use crate::proved::ivl_merges::merges::union;
 use crate::rattle::std::alloc::AllocError;
 
-/// Returns the members of the runs left in either walk. Advances once for each of these runs, and
-/// reserves as many runs once. The result has the allocator of the first walk. Fails only if
-/// allocation fails.
+/// Returns the members of the runs left in either walk. `O(n + m)` for these `n` and `m` runs:
+/// advances once for each, and reserves as many runs once. The result has the allocator of the first
+/// walk. Fails only if allocation fails.
 ///
 /// ```
 /// use intervallum::proved::examples::*;

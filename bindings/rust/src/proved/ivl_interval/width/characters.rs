@@ -1,7 +1,7 @@
 // Written by bindings/rust/extract from crates/ivl_interval/src/width/characters.rt.
 //! The numbers of characters.
 //!
-//! The number of a character is its place among all characters, in ascending order and from 0. So
+//! The number of a character is its index among all characters, in ascending order and from 0. So
 //! `'\u{d7ff}'` and `'\u{e000}'`, with the surrogates between them, have consecutive numbers, and a
 //! range of characters is an interval of numbers.
 //!
@@ -38,7 +38,7 @@ use crate::rattle::prelude::*;
 ///
 /// # Proved
 ///
-/// The result is the place of the character among all characters, from 0 to 0x10f7ff.
+/// The result is the index of the character among all characters, from 0 to 0x10f7ff.
 ///
 /// ```text
 /// ensures value { result ≡ pos (character_number character) }
@@ -74,7 +74,7 @@ pub fn number_of(character: char) -> i128 {
 ///
 /// # Proved
 ///
-/// The result is the character at this place among all characters, or `None` exactly when the place is not from 0 to 0x10f7ff.
+/// The result is the character at this index among all characters, or `None` exactly when it is not from 0 to 0x10f7ff.
 ///
 /// ```text
 /// ensures known { IsSome result ↔ IsBetween (pos 0, pos 0x10f7ff) number }

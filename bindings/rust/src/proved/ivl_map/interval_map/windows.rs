@@ -9,8 +9,10 @@ use crate::proved::ivl_map::edits::span;
 use crate::proved::ivl_map::value::MapValue;
 use crate::proved::intervallum::interval::Interval;
 use crate::proved::intervallum::interval_set::IntervalSet;
-use crate::proved::intervallum::ops::{Difference, IsEmpty};
-use crate::proved::intervallum::width::Width;
+use crate::proved::intervallum::ops::{
+    Bounded, Cardinality, Difference, IsEmpty, Range, StrictShrinkLeft, StrictShrinkRight,
+};
+use crate::proved::intervallum::width::{SizeNumber, Width};
 use crate::rattle::std::alloc::AllocError;
 
 impl<B: Width, V: MapValue> IntervalMap<B, V> {
@@ -91,8 +93,8 @@ impl<B: Width, V: MapValue> IntervalMap<B, V> {
     /// value, or `None` if there is none. The caller must ensure that `count` is above 0. Check with
     /// `count.number() > 0`.
     ///
-    /// Makes the gaps: costs as much as [`IntervalMap::gaps_within`], and needs as much memory until
-    /// it returns. Fails only if allocation fails.
+    /// Walks the `k` entries of the window up to the first gap that is long enough: `O(log n + k)`. Does
+    /// not allocate, and never fails.
     ///
     /// ```
     /// use intervallum::proved::examples::*;
@@ -109,13 +111,14 @@ impl<B: Width, V: MapValue> IntervalMap<B, V> {
     ///
     /// # Proved
     ///
-    /// None: nowhere in the window do so many numbers without a value stand in a row. Else the lowest that do.
+    /// None: nowhere in the window do so many numbers without a value stand in a row. Else the lowest that do. It cannot fail.
     ///
     /// ```text
     /// requires { 0 < B.Output.size count }
-    /// ensures { IfOk result (λ fit. MatchOption fit
+    /// ensures fit { IfOk result (λ fit. MatchOption fit
     ///     ((v : ℤ) → ¬ (FitsAt (B.Output.size count) (Without (IsBetween window) (HasValue (HasAt V.eq self.now))) v))
     ///     (IsFirstFit (B.Output.size count) (Without (IsBetween window) (HasValue (HasAt V.eq self.now))))) }
+    /// ensures never_fails { IsOk result }
     /// ```
     ///
     /// Words: [`FitsAt`](crate::definitions#FitsAt), [`Without`](crate::definitions#Without), [`IsBetween`](crate::definitions#IsBetween), [`HasValue`](crate::definitions#HasValue), [`HasAt`](crate::definitions#HasAt), [`IsFirstFit`](crate::definitions#IsFirstFit).
@@ -126,7 +129,35 @@ impl<B: Width, V: MapValue> IntervalMap<B, V> {
         count: B::Output,
     ) -> Result<Option<Interval<B>>, AllocError> {
         debug_assert!({ #[allow(unused_imports)] use crate::proved::ivl_interval::ops::*; crate::proved::ivl_interval::width::SizeNumber::number(count) > 0 }, "{}", "the condition of `first_fit` is broken: crate::proved::ivl_interval::width::SizeNumber::number(count) > 0");
-        let gaps = self.gaps_within(window)?;
-        Ok(gaps.first_fit(count))
+        Ok(first_gap(self.overlapping(window), window, count))
     }
+}
+
+/// The lowest `count` consecutive numbers of a window that no entry has.
+fn first_gap<B: Width, V: MapValue>(
+    entries: &[(Interval<B>, V)],
+    window: Interval<B>,
+    count: B::Output,
+) -> Option<Interval<B>> {
+    let mut rest = window;
+    for entry in entries {
+        let gap = rest.strict_shrink_right(entry.0.lower());
+        if gap.size() >= count {
+            return Some(lowest_of(gap, count));
+        }
+        rest = rest.strict_shrink_left(entry.0.upper());
+    }
+    if rest.size() >= count {
+        Some(lowest_of(rest, count))
+    } else {
+        None
+    }
+}
+
+/// The lowest `count` numbers of an interval that has at least so many.
+fn lowest_of<B: Width>(gap: Interval<B>, count: B::Output) -> Interval<B> {
+    gap.in_whole();
+    let start = gap.lower_bound();
+    let last = start.number() + (count.number() - 1) as i128;
+    Interval::new(start, B::from_number(last).unwrap())
 }

@@ -24,8 +24,9 @@ type LeftOfTwo<B> = (Option<IntervalSet<B>>, Option<IntervalSet<B>>);
 /// The caller must ensure that the rule names each of its variables once, and that each has a domain. Check with
 /// [`Rule::is_over_different`] and [`Rule::first_unknown`].
 ///
-/// `AtMost` and `Differs` look at the ends of a domain and, where a member is lost, copy what is left of it.
-/// `Shifted` looks each run of one domain up in the other, and makes that anew where one is lost. `Sum` costs what
+/// Costs for an `AtMost` or a `Differs` a look at the ends of its domains, or a look-up where one is a single number,
+/// and a copy of what is left of one that loses a member; for a `Shifted` a look-up of each run of one domain in the
+/// other, and an intersection for one that loses a member; for a `Sum` what
 /// [`narrowed_by_sum`](crate::proved::ivl_store::store::narrowed_sets::narrowed_by_sum) costs. A domain that keeps its members is not
 /// written, and no rule of two variables allocates where none is lost.
 ///
@@ -49,6 +50,8 @@ type LeftOfTwo<B> = (Option<IntervalSet<B>>, Option<IntervalSet<B>>);
 /// ```
 ///
 /// # Proved
+///
+/// If it fails, the domains are unchanged. On success, a domain that the rule names keeps exactly the members that are in a point of the old domains which satisfies the rule, and the others stay. True exactly when some domain lost a member.
 ///
 /// ```text
 /// requires different { AreDifferent rule.now }
@@ -74,8 +77,8 @@ pub fn narrow<B: Width>(domains: &mut [IntervalSet<B>], rule: &Rule) -> Result<b
 }
 
 /// Returns true only if narrowing by the rule takes no member: by the ends of its domains, and of a `Differs` where
-/// one domain is a single number, by a look-up of what that forbids. Does not allocate. Of `Sum` and `Shifted`, and
-/// where a domain is empty, it returns false.
+/// one domain is a single number, by a look-up of what that forbids. Of `Sum` and `Shifted`, and where a domain is
+/// empty, it returns false. `O(1)`, or `O(log n)` for a look-up in `n` runs. Does not allocate.
 ///
 /// The caller must ensure that the rule names each of its variables once, and that each has a domain. Check with
 /// [`Rule::is_over_different`] and [`Rule::first_unknown`].
@@ -97,6 +100,8 @@ pub fn narrow<B: Width>(domains: &mut [IntervalSet<B>], rule: &Rule) -> Result<b
 #[inline(always)]
 ///
 /// # Proved
+///
+/// True only if each member of a domain that the rule names is in a point of the domains which satisfies the rule.
 ///
 /// ```text
 /// requires different { AreDifferent rule.now }
@@ -174,7 +179,8 @@ fn put<B: Width>(domains: &mut [IntervalSet<B>], i: usize, left: Option<Interval
     }
 }
 
-/// Returns what narrowing by a rule leaves of the domains at its places, with `None` in place of one that loses no member.
+/// Returns what narrowing by a rule leaves of the domains of its variables, in the order of [`Rule::places`], with
+/// `None` for one that loses no member. Costs what [`narrow`] costs.
 ///
 /// The caller must ensure that the rule names each of its variables once, and no variable without a domain. Check with
 /// [`Rule::is_over_different`] and [`Rule::first_unknown`].
@@ -200,6 +206,8 @@ fn put<B: Width>(domains: &mut [IntervalSet<B>], i: usize, left: Option<Interval
 ///
 /// # Proved
 ///
+/// On success, what is left of the domains of the rule's variables, in their order: of each the members that are in a point of the domains which satisfies the rule, or `None` exactly when all are. A rule of two variables has `None` as its third.
+///
 /// ```text
 /// requires different { AreDifferent rule.now }
 /// requires present { AllPresent (length domains.now) (places_of rule.now) }
@@ -219,7 +227,7 @@ pub fn narrowed_at_places<B: Width>(
 
 /// Returns what [`narrowed_at_places`] returns, under its conditions. What a sum or an `AtMost` leaves is made in the memory
 /// of spare sets, as [`narrowed_by_sum_in`](crate::proved::ivl_store::store::narrowed_sets::narrowed_by_sum_in) and
-/// [`narrowed_to_window_in`] do.
+/// [`narrowed_to_window_in`] do. Costs what [`narrow`] costs.
 ///
 /// # Errors
 ///
@@ -241,6 +249,8 @@ pub fn narrowed_at_places<B: Width>(
 #[inline]
 ///
 /// # Proved
+///
+/// On success, what is left of the domains of the rule's variables, in their order: of each the members that are in a point of the domains which satisfies the rule, or `None` exactly when all are. A rule of two variables has `None` as its third.
 ///
 /// ```text
 /// requires different { AreDifferent rule.now }
@@ -274,8 +284,9 @@ pub fn narrowed_at_places_in<B: Width>(
 }
 
 /// Returns the variable and the number that narrowing by the rule takes, where that is found by a look-up: of a
-/// `Differs` where one domain is a single number and the other one has what that forbids, and more. Does not allocate.
-/// Of other rules, and of other domains, it returns `None`, whatever narrowing takes.
+/// `Differs` where one domain is a single number and the other one has what that forbids, and more. Of other rules, and
+/// of other domains, it returns `None`, whatever narrowing takes. `O(1)`, or `O(log n)` for a look-up in `n` runs. Does
+/// not allocate.
 ///
 /// The caller must ensure that the rule names each of its variables once, and that each has a domain. Check with
 /// [`Rule::is_over_different`] and [`Rule::first_unknown`].
@@ -294,6 +305,8 @@ pub fn narrowed_at_places_in<B: Width>(
 #[inline]
 ///
 /// # Proved
+///
+/// Some: the rule is a `Differs`, and narrowing by it takes this number from this variable, and no other member.
 ///
 /// ```text
 /// requires different { AreDifferent rule.now }

@@ -71,7 +71,7 @@ fn moved_run<B: Width>(run: Interval<B>, by: i128) -> Interval<B> {
     Interval::new(clamped(low), clamped(high))
 }
 
-/// Returns the members of `x` in an interval, or `None` if all are. A look at the ends of `x` and, where some are
+/// Returns the members of `x` in an interval, or `None` if all are. Costs a look at the ends of `x` and, where some are
 /// lost, a binary search and a copy of what is left.
 ///
 /// # Errors
@@ -91,6 +91,8 @@ fn moved_run<B: Width>(run: Interval<B>, by: i128) -> Interval<B> {
 /// ```
 ///
 /// # Proved
+///
+/// On success, the members of `x` in the window; `None` exactly when all are.
 ///
 /// ```text
 /// ensures { IfOk result (IsLeftOf B.whole x.now (IsBetween window)) }
@@ -132,6 +134,8 @@ pub fn narrowed_to_window<B: Width>(
 /// ```
 ///
 /// # Proved
+///
+/// On success, the members of `x` in the window; `None` exactly when all are.
 ///
 /// ```text
 /// ensures { IfOk result (IsLeftOf B.whole x.now (IsBetween window)) }

@@ -40,8 +40,8 @@ use crate::rattle::std::alloc::Global;
 /// `(2 p - 1) * (c / 500 + 1)` for `c` rules, where `p` is the product of the sizes of the
 /// domains, or 1 if that is 0.
 ///
-/// Copies the domains and the rules once, and counts for each variable how many name it. Each node
-/// costs its narrowings and a pass over the domains; memory is that of the solutions, of the
+/// Costs a copy of the domains and the rules, a count of those that name each variable, and for
+/// each node its narrowings and a pass over the domains. Memory is that of the solutions, of the
 /// domains that one branch replaces, and of the cuts of the branch.
 ///
 /// # Errors
@@ -68,6 +68,8 @@ use crate::rattle::std::alloc::Global;
 /// ```
 ///
 /// # Proved
+///
+/// The fault names the first index, in list order, without a domain, exactly when there is one. On success, each point is a solution: it has a member of each domain, in order, and satisfies each rule. No point is there twice. If the search ended with `All`, every solution is there. There are at most `limits.solutions` points, exactly so many if the search ended with `Solutions`, and at most `limits.nodes`. It ends with `Nodes` only if `limits.nodes` is less than `(2 p - 1) * (c / 500 + 1)`, for `c` rules and the product `p` of the sizes of the domains, or 1 if that is 0.
 ///
 /// ```text
 /// requires { All AreDifferent rules.now }
@@ -116,13 +118,15 @@ pub fn solutions<B: Width>(
 }
 
 /// Searches as [`solutions`] does, without its condition: returns `None` if a rule names
-/// a variable twice.
+/// a variable twice. Costs what [`solutions`] costs, and a pass over the rules.
 ///
 /// # Errors
 ///
 /// Those of [`solutions`], and only if each rule names each of its variables once.
 ///
 /// # Proved
+///
+/// `None` is returned, where nothing fails, exactly when some rule names a variable twice. The fault names the first index, in list order, without a domain, exactly when there is one and each rule names each of its variables once. Some: each point is a solution: it has a member of each domain, in order, and satisfies each rule. No point is there twice. If the search ended with `All`, every solution is there. There are at most `limits.solutions` points, exactly so many if the search ended with `Solutions`, and at most `limits.nodes`. It ends with `Nodes` only if `limits.nodes` is less than `solutions` says.
 ///
 /// ```text
 /// ensures none { IfOk result (λ o. IsNone o ↔ (¬ (All AreDifferent rules.now))) }
@@ -170,6 +174,8 @@ pub fn try_solutions<B: Width>(
 ///
 /// # Proved
 ///
+/// True exactly when each rule names each of its variables once.
+///
 /// ```text
 /// ensures { IsTrue result ↔ All AreDifferent rules.now }
 /// ```
@@ -181,7 +187,7 @@ pub fn all_different(rules: &[Rule]) -> bool {
 
 /// Counts the points that [`solutions`] would return with the same limits, and keeps none of them.
 /// The count is that of all solutions if the search ended with [`End::All`], and that of some of
-/// them if not.
+/// them if not. Costs what [`solutions`] costs, but for the memory of the solutions.
 ///
 /// The caller must ensure that each rule names each of its variables once. Check with
 /// [`Rule::is_over_different`], or [`all_different`] for a list.
@@ -211,6 +217,8 @@ pub fn all_different(rules: &[Rule]) -> bool {
 /// ```
 ///
 /// # Proved
+///
+/// The fault names the first index, in list order, without a domain, exactly when there is one. On success, so many different points are solutions, and if the search ended with `All`, there is no other. A solution has a member of each domain, in order, and satisfies each rule. The count is at most `limits.solutions`, exactly that if the search ended with `Solutions`, and at most `limits.nodes`. It ends with `Nodes` only if `limits.nodes` is less than `solutions` says.
 ///
 /// ```text
 /// requires { All AreDifferent rules.now }
@@ -264,11 +272,11 @@ pub fn count<B: Width>(
 /// The caller must ensure that each rule names each of its variables once. Check with
 /// [`Rule::is_over_different`], or [`all_different`] for a list.
 ///
-/// Copies the domains and the rules once, and counts for each variable how many name it. Each
-/// search looks for one solution among the lower half of the numbers that the variable can still
-/// have; then these are cut to what is below it, or to the upper half if there is none. So there
-/// are at most 64 searches, which share the nodes. Memory is that of two solutions, of the domains
-/// that one branch replaces, and of the cuts of the branch.
+/// Costs a copy of the domains and the rules, a count of those that name each variable, and at most
+/// 64 searches, which share the nodes. Each search looks for one solution among the lower half of
+/// the numbers that the variable can still have; then these are cut to what is below it, or to the
+/// upper half if there is none. Memory is that of two solutions, of the domains that one branch
+/// replaces, and of the cuts of the branch.
 ///
 /// Returns [`End::Nodes`] only if `limits.nodes` is at most `2 p * (c / 500 + 1)`, with `p` and `c`
 /// as for [`solutions`].
@@ -298,6 +306,8 @@ pub fn count<B: Width>(
 ///
 /// # Proved
 ///
+/// The fault names the first index of the rules, in list order, without a domain, or else `variable` if it has none, exactly when there is one. On success, the point, if there is one, is a solution: it has a member of each domain, in order, and satisfies each rule. If the search ended with `All`, no solution gives the variable a smaller number, and without a point there is no solution. There is a point only if both limits are at least 1. If the search ended with `Solutions`, the point is the last of `limits.solutions` solutions, each with a smaller number for the variable than the one before it, or there is none if that is 0, and `limits.nodes` is no less than `limits.solutions`. It ends with `Nodes` only if `limits.nodes` is at most `2 p * (c / 500 + 1)`, for `c` rules and the product `p` of the sizes of the domains, or 1 if that is 0.
+///
 /// ```text
 /// requires { All AreDifferent rules.now }
 /// ensures unknown { (i : ℕ) → (result ≡ Err (SearchFault.Variable i)) ↔ (first_unknown_or_rules variable (length domains.now) rules.now ≡ Some i) }
@@ -325,7 +335,8 @@ pub fn least<B: Width>(
 
 /// Returns a solution in which a variable has its greatest number, as [`least`] does one with its
 /// least: no solution gives it a greater one. Searches greater numbers first, of every variable, and
-/// so visits as many nodes as [`least`] does where all numbers have the other sign.
+/// so visits as many nodes as [`least`] does where all numbers have the other sign. Costs as much as
+/// that.
 ///
 /// The caller must ensure that each rule names each of its variables once. Check with
 /// [`Rule::is_over_different`], or [`all_different`] for a list.
@@ -353,6 +364,8 @@ pub fn least<B: Width>(
 /// ```
 ///
 /// # Proved
+///
+/// The fault names the first index of the rules, in list order, without a domain, or else `variable` if it has none, exactly when there is one. On success, the point, if there is one, is a solution: it has a member of each domain, in order, and satisfies each rule. If the search ended with `All`, no solution gives the variable a greater number, and without a point there is no solution. There is a point only if both limits are at least 1. If the search ended with `Solutions`, the point is the last of `limits.solutions` solutions, each with a greater number for the variable than the one before it, or there is none if that is 0, and `limits.nodes` is no less than `limits.solutions`. It ends with `Nodes` only if `limits.nodes` is at most what `least` says.
 ///
 /// ```text
 /// requires { All AreDifferent rules.now }

@@ -11,6 +11,8 @@ use crate::proved::intervallum::width::Width;
 ///
 /// # Proved
 ///
+/// True exactly when each constraint among the posts has three different variables.
+///
 /// ```text
 /// ensures { IsTrue result ↔ All AreDistinct (constraints_of posts.now) }
 /// ```
@@ -35,7 +37,8 @@ fn is_distinct<B: Width>(post: &Post<B>) -> bool {
 
 impl<B: Width> Store<B> {
     /// Posts all as [`Store::post_all`] does, without its condition: returns `None`, and leaves the
-    /// store unchanged, if a constraint among them has a variable twice.
+    /// store unchanged, if a constraint among them has a variable twice. Costs what `post_all` costs,
+    /// and a pass over the posts.
     ///
     /// # Errors
     ///
@@ -43,7 +46,7 @@ impl<B: Width> Store<B> {
     ///
     /// # Proved
     ///
-    /// Whatever is returned, domains only lose members, and no family loses one that the posts leave it.
+    /// `None`: some constraint has a variable twice, and the domains are unchanged. Some: one reply for each post, true exactly when the greatest domains for the posts up to it have an empty one. The domains are the greatest for all posts: of those within the old ones and the cuts, the greatest that each constraint supports. The fault names the first index, in list order, without a variable, exactly when there is one and each constraint has three different variables. The domains are then unchanged. Out of memory: each constraint has three different variables, and each index a variable. The domains are what some first posts leave, or what the cut of one more leaves of that, and the narrowings made since. Whatever is returned, domains only lose members. Domains within the old ones and the cuts that each constraint supports lie within the new ones.
     ///
     /// ```text
     /// ensures none { IfOk result (λ o. IsNone o → ¬ (All AreDistinct (constraints_of posts.now)) × (self.new ≡ self.old)) }

@@ -7,7 +7,7 @@ use crate::rattle::std::alloc::AllocError;
 
 /// The constraint that variables `x` and `y` add to variable `z`.
 ///
-/// A variable may stand in two or three places. Only [`Store::post_all`](super::Store::post_all)
+/// A variable may be named two or three times. Only [`Store::post_all`](super::Store::post_all)
 /// requires three different variables; check with [`distinct`](Constraint::distinct).
 #[derive(Clone, Copy, Debug, PartialEq, Eq)]
 pub struct Constraint {
@@ -17,7 +17,8 @@ pub struct Constraint {
 }
 
 impl Constraint {
-    /// Returns true exactly when `x`, `y` and `z` are three different variables.
+    /// Returns true exactly when `x`, `y` and `z` are three different variables. `O(1)`, does not
+    /// allocate.
     ///
     /// ```
     /// use intervallum::proved::examples::*;
@@ -31,6 +32,8 @@ impl Constraint {
     /// ```
     ///
     /// # Proved
+    ///
+    /// True exactly when `x`, `y` and `z` are three different variables.
     ///
     /// ```text
     /// ensures { IsTrue result ↔ AreDistinct self.now }
@@ -51,7 +54,8 @@ impl Constraint {
         variable == self.x || variable == self.y || variable == self.z
     }
 
-    /// Returns the first of `x`, `y` and `z` that is not below `count`, or `None` if all are.
+    /// Returns the first of `x`, `y` and `z` that is not below `count`, or `None` if all are. `O(1)`,
+    /// does not allocate.
     ///
     /// ```
     /// use intervallum::proved::examples::*;
@@ -65,6 +69,8 @@ impl Constraint {
     /// ```
     ///
     /// # Proved
+    ///
+    /// The result is the first of `x`, `y` and `z`, in this order, that is not below `count`, or `None` if all are.
     ///
     /// ```text
     /// ensures { result ≡ first_unknown count self.now }

@@ -27,6 +27,8 @@ impl<B: Width> Store<B> {
     ///
     /// # Proved
     ///
+    /// The result is one, and one more for each 256 pairs of a run of `x` and one of `y`, of `x` and `z`, and of `y` and `z`, of which `u64::MAX` count at most. It is never 0.
+    ///
     /// ```text
     /// requires { AllPresent (length self.now) c.now }
     /// ensures cost { result ≡ cost_of c.now self.now }

@@ -74,6 +74,8 @@ pub(super) fn narrowed_sets<B: Width>(
 ///
 /// # Proved
 ///
+/// On success, what is left: of `x` the members that are a member of `z` less one of `y`, of `y` those that are a member of `z` less one of `x`, of `z` those that are a sum of both. `None` stands in place of a set exactly when all its members are left.
+///
 /// ```text
 /// ensures at_x { IfOk result (λ r. IsLeftOf B.whole x.now (Differences (Covers z.now) (Covers y.now)) r.0) }
 /// ensures at_y { IfOk result (λ r. IsLeftOf B.whole y.now (Differences (Covers z.now) (Covers x.now)) r.1) }
@@ -90,8 +92,8 @@ pub fn narrowed_by_sum<B: Width>(
     narrowed_by_sum_in(x, y, z, &mut spares)
 }
 
-/// Returns what [`narrowed_by_sum`] returns. A set that is made by words, or that is a single run, is made in the memory
-/// of a spare one, as long as there is one.
+/// Returns what [`narrowed_by_sum`] returns, at the same cost. A set that is made by words, or that is a single run, is
+/// made in the memory of a spare one, as long as there is one.
 ///
 /// # Errors
 ///
@@ -115,6 +117,8 @@ pub fn narrowed_by_sum<B: Width>(
 #[inline]
 ///
 /// # Proved
+///
+/// On success, what is left: of `x` the members that are a member of `z` less one of `y`, of `y` those that are a member of `z` less one of `x`, of `z` those that are a sum of both. `None` stands in place of a set exactly when all its members are left.
 ///
 /// ```text
 /// ensures at_x { IfOk result (λ r. IsLeftOf B.whole x.now (Differences (Covers z.now) (Covers y.now)) r.0) }
@@ -336,6 +340,8 @@ fn left_of_moved<B: Width>(
 ///
 /// # Proved
 ///
+/// On success, the members of `x` that are a sum, or with `Difference` a difference, of a member of `a` and one of `b`; `None` exactly when all are.
+///
 /// ```text
 /// ensures { IfOk result (IsLeftOf B.whole x.now (SumsBy op (Covers a.now) (Covers b.now))) }
 /// ```
@@ -424,6 +430,8 @@ fn set_of_run<B: Width>(
 /// ```
 ///
 /// # Proved
+///
+/// On success, the members of `x` that are in `allowed`; `None` exactly when all are.
 ///
 /// ```text
 /// ensures { IfOk result (IsLeftOf B.whole x.now (Covers allowed.now)) }

@@ -16,7 +16,7 @@ impl<B: Width> Store<B> {
     /// of both, all over the domains before the call. Returns true exactly when some domain lost a
     /// member.
     ///
-    /// A variable that stands in two places takes the rule of its last. For each domain looks for the
+    /// For a variable that is named twice the last of these holds. For each domain looks for the
     /// sums or differences of the other two in it, at the cost of
     /// [`results_in_set`](crate::proved::ivl_within::within::results_in_set); `O(1)` if all three are single runs. A
     /// domain that keeps its members is not written.
@@ -43,7 +43,7 @@ impl<B: Width> Store<B> {
     ///
     /// # Proved
     ///
-    /// No supported family loses a member, so no solution is lost; with three variables, just the members of solutions are left.
+    /// The fault names the first of `x`, `y` and `z` that is no variable of the store, exactly when there is one. If it fails, the domains are unchanged. On success, `x` keeps its members that are a member of `z` less one of `y`, `y` those that are a member of `z` less one of `x`, and `z` those that are a sum of both, all by the old domains; for a variable that is named twice the last of these holds, and the other domains stay. True exactly when some domain lost a member. On success, domains within the old ones that the constraint supports lie within the new ones, so no solution is lost. Of three different variables, just the members of solutions are left.
     ///
     /// ```text
     /// ensures unknown { (i : ℕ) → (result ≡ Err (StoreFault.Variable i)) ↔ (first_unknown (length self.old) constraint.now ≡ Some i) }
@@ -117,8 +117,8 @@ impl<B: Width> Store<B> {
     /// constraint narrows any further; if each has three variables, the domains are the greatest
     /// ones in which every member is supported, whatever the order of the list.
     ///
-    /// Costs what its narrowings cost, and a pass over the constraints for each domain that
-    /// changes. Reserves one flag per constraint. A constraint of three different variables whose
+    /// Costs what its narrowings cost, and a pass over the constraints for each round and for each
+    /// domain that changes. Reserves one flag per constraint. A constraint of three different variables whose
     /// domains did not change since it narrowed them is skipped in `O(1)`.
     ///
     /// # Errors
@@ -145,7 +145,7 @@ impl<B: Width> Store<B> {
     ///
     /// # Proved
     ///
-    /// Domains only lose members, and no supported family loses one. So no point that solves all the constraints is lost. True: nothing is left to narrow, and with three variables each, the domains are the greatest supported family. False: each round removed a member. What whole rounds leave: all of them if each removed a member, or those before the first that removed none. Out of memory: what whole rounds and the first narrowings of one more leave.
+    /// The fault names the first index, in list order, without a variable, exactly when there is one. The domains are then unchanged. Domains only lose members. Domains within the old ones that each constraint supports lie within the new ones. So no point that solves all the constraints is lost. True: no constraint narrows any further, and if each has three different variables, the domains are the greatest within the old ones that each constraint supports. False: the domains lost at least `rounds` members. What whole rounds leave: all of them if each removed a member, or those before the first that removed none. Out of memory: what whole rounds and the first narrowings of one more leave.
     ///
     /// ```text
     /// ensures unknown { (i : ℕ) → (result ≡ Err (StoreFault.Variable i)) ↔ (first_unknown_in (length self.old) constraints.now ≡ Some i) }

@@ -20,6 +20,9 @@ impl<B: Width> Store<B> {
     /// all cuts, in which every member is supported by each constraint. They do not depend on the
     /// order of the posts, and each reply depends only on the posts up to its own.
     ///
+    /// Costs the cuts and the narrowings, and a pass over the constraints so far for each round of
+    /// narrowings and for each domain that changes.
+    ///
     /// The caller must ensure that each constraint has three different variables. Check with
     /// [`Constraint::distinct`], or [`all_distinct`](super::callers::all_distinct) for a list.
     ///
@@ -50,7 +53,7 @@ impl<B: Width> Store<B> {
     ///
     /// # Proved
     ///
-    /// Domains only lose members, and no family loses one that the posts leave it. So no point that solves all the constraints is lost. Each reply speaks of the greatest family for the posts up to its own; the domains are that for all of them. Out of memory: what some first posts leave, or what the cut of one more leaves of that, and the narrowings made since.
+    /// The fault names the first index, in list order, without a variable, exactly when there is one. The domains are then unchanged. Domains only lose members. Domains within the old ones and the cuts that each constraint supports lie within the new ones. So no point within the cuts that solves all the constraints is lost. On success, there is one reply for each post, true exactly when the greatest domains for the posts up to it have an empty one. The domains are the greatest for all posts: of those within the old ones and the cuts, the greatest that each constraint supports. Out of memory: what some first posts leave, or what the cut of one more leaves of that, and the narrowings made since.
     ///
     /// ```text
     /// requires { All AreDistinct (constraints_of posts.now) }

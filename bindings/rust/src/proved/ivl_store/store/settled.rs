@@ -6,8 +6,8 @@ use crate::rattle::prelude::*;
 use super::Constraint;
 use crate::rattle::std::alloc::{AllocError, Global};
 
-/// Whether a member was lost at x, at y and at z; a variable in two places has the flag of its
-/// last.
+/// Whether a member was lost at x, at y and at z; a variable that is named twice has its flag at the
+/// last of these.
 #[derive(Clone, Copy)]
 pub struct Lost {
     pub x: bool,
@@ -16,7 +16,7 @@ pub struct Lost {
 }
 
 impl Lost {
-    /// Returns true exactly when a member was lost at one of the three.
+    /// Returns true exactly when a member was lost at one of the three. `O(1)`.
     ///
     /// ```
     /// use intervallum::proved::examples::*;
@@ -29,6 +29,8 @@ impl Lost {
     /// ```
     ///
     /// # Proved
+    ///
+    /// True exactly when a member was lost at one of the three.
     ///
     /// ```text
     /// ensures { result ≡ any_lost self }

@@ -42,7 +42,7 @@ impl<B: Width> Spares<B> {
         }
     }
 
-    /// Makes room for 256 sets, if there is none. Fails only if allocation fails; the spares are then unchanged.
+    /// Makes room for 256 sets, if there is none. `O(1)`. Fails only if allocation fails; the spares are then unchanged.
     pub fn make_room(&mut self) -> Result<(), AllocError> {
         if self.sets.capacity() == 0 {
             self.sets.reserve(SETS)?;
@@ -54,6 +54,8 @@ impl<B: Width> Spares<B> {
     /// if there is none. `O(1)`. Does not allocate.
     ///
     /// # Proved
+    ///
+    /// The result is the empty set.
     ///
     /// ```text
     /// ensures { result ≡ [] }

@@ -32,6 +32,8 @@ impl<B: Width> Store<B> {
     ///
     /// # Proved
     ///
+    /// The set stands in place of the domain, or with `None` the domain stays; the others stay. What is returned, swapped in again, gives back the old domains.
+    ///
     /// ```text
     /// requires known { i < length self.old }
     /// requires range { (s : List (ℤ × ℤ)) → left ≡ Some s → IsRunListIn B.whole s }
@@ -65,6 +67,8 @@ impl<B: Width> Store<B> {
     /// ```
     ///
     /// # Proved
+    ///
+    /// The set stands in place of the domain, if there is such a variable; the others stay.
     ///
     /// ```text
     /// ensures { self.new ≡ slice_set self.old i set }
@@ -105,6 +109,8 @@ impl<B: Width> Store<B> {
     ///
     /// # Proved
     ///
+    /// On success, the domain has its members outside of the interval. The other domains stay, whatever the result, and all stay if there is no such variable. If it fails, the domains are unchanged.
+    ///
     /// ```text
     /// ensures taken { OnOk result ((j : ℕ) (v : ℤ) → set_at self.new j v ↔ (set_at self.old j v × (j ≡ i → ¬ (IsBetween interval v)))) }
     /// ensures back { slice_set self.new i (slice_index_or self.old i []) ≡ self.old }
@@ -138,6 +144,8 @@ impl<B: Width> Store<B> {
     /// ```
     ///
     /// # Proved
+    ///
+    /// The last domain is gone, if there is one, and the others stay.
     ///
     /// ```text
     /// ensures { self.new ≡ take (length self.old - 1) self.old }

@@ -11,8 +11,8 @@ use Rattle.ivl_calendar.proofs.rooms.Room.add_named.Goals as goal
 
 pub invariant_of-self : goal.invariant_of-self
 invariant_of-self c = either_way c.insert.result c.insert.ensures.ok c.insert.ensures.err
-    (λ h. dates_with c.self.inside.named c.insert.new.self c.args.days c.in_ok-name.name h.values c.self.invariant c.requires.first c.requires.last)
-    (λ e. subst (λ (L : Kept). IsSubset (HasValue (HasAt bytes_eq (named_of L))) IsEpochDay) (sym e) c.self.invariant)
+    (λ h. (dates_with c.self.inside.named c.insert.new.self c.args.days c.in_ok-name.name h.values c.self.invariant.0 c.requires.first c.requires.last, c.self.invariant.1))
+    (λ e. (subst (λ (L : Kept). IsSubset (HasValue (HasAt bytes_eq (named_of L))) IsEpochDay) (sym e) c.self.invariant.0, c.self.invariant.1))
 
 pub returns-clause-ok : goal.returns-clause-ok
 returns-clause-ok c = on_ok_weaker c.insert.result

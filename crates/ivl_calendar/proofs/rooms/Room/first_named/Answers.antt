@@ -21,7 +21,7 @@ returns-then-lower-upper-clause-first c =
     (met_first c.self.inside.named c.args.days.now c.in-Some.met.0 c.in-Some.met.1.now _ (omega (arith, ints, c.lower.ensures.value)) c.in-Some.ensures.least c.requires low))
 
 pub returns-then-lower-upper-clause-dates : goal.returns-then-lower-upper-clause-dates
-returns-then-lower-upper-clause-dates c = run_of_dates c.self.inside.named c.in-Some.met.0 c.in-Some.met.1.now c.in-Some.ensures.least.run.inside c.self.invariant
+returns-then-lower-upper-clause-dates c = run_of_dates c.self.inside.named c.in-Some.met.0 c.in-Some.met.1.now c.in-Some.ensures.least.run.inside c.self.invariant.0
 
 pub returns-else-lower-upper-clause-first : goal.returns-else-lower-upper-clause-first
 returns-else-lower-upper-clause-first c =

@@ -50,9 +50,10 @@ pub returns-clause-added : goal.returns-clause-added
 returns-clause-added g c =
     let i = c.self.inside in
     let added = c.in_ok-index.ensures.added in
-    state_is _ _ _ _ _ _ _ _ (added ∙ ap (λ (s : RulesState). s.domains ++ c.args.domain ∷ []) c.self.view_is) (ap (λ (s : RulesState). s.rules) c.self.view_is)
+    state_is _ _ _ _ _ _ _ _ _ _ (added ∙ ap (λ (s : RulesState). s.domains ++ c.args.domain ∷ []) c.self.view_is) (ap (λ (s : RulesState). s.rules) c.self.view_is)
     (ap (λ (s : RulesState). s.settled) c.self.view_is)
     (logged_marks i.marks.items i.trail.items c.reserve_changes.new.trail.items c.log_change.new.trail.items _ _ _ _ c.self.invariant.1
     c.reserve_changes.ensures.same c.log_change.ensures (reverts_variable {B = g.row.B.Denot} {O = g.row.B-Output.Denot} Variable i.store c.add_variable.new.self c.args.domain i.rules.items refl added)
     (λ f. sym c.deref.ensures.value ∙ c.is_logging-is_kept.ensures f)
     ∙ ap (λ (s : RulesState). s.marked) c.self.view_is)
+    (ap (λ (s : RulesState). s.were_settled) c.self.view_is)

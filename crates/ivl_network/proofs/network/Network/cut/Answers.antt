@@ -2,12 +2,14 @@ use Rattle.std.proofs.Common.{◌≡◌, ◌∙◌, ap, false, refl, subst, sym}
 use Rattle.ivl_laws.specs.Families.{set_at}
 use Rattle.ivl_laws.specs.Sets.{IsSubset}
 use Rattle.ivl_network.specs.Network.{IsCutAt, IsSoundRules, RulesState}
+use Rattle.ivl_network.specs.Settled.{KeepsSettled}
 use Rattle.ivl_network.specs.Trail.{KeepsPast}
 use Rattle.ivl_network.proofs.Indexes.{index_of_count}
 use Rattle.ivl_network.proofs.Logging.{state_is}
 use Rattle.ivl_network.proofs.Marks.{marks_same}
 use Rattle.ivl_network.proofs.Narrowings.{sound_moved}
 use Rattle.ivl_network.proofs.Settled.{settled_cut}
+use Rattle.ivl_network.proofs.Standing.{kept_cut}
 use Rattle.ivl_network.proofs.network.Network.cut.Goals as goal
 
 pub invariant_of-self-2 : goal.invariant_of-self-2
@@ -53,4 +55,11 @@ returns-clause-same g c = λ within.
     let was : KeepsPast i.marks.items i.trail.items c.restrict_logged.new.trail.items i.store c.restrict_logged.new.store cs =
     subst (λ t. KeepsPast i.marks.items t c.restrict_logged.new.trail.items i.store c.restrict_logged.new.store cs) c.reserve_changes.ensures.same
     (subst (λ ms. KeepsPast ms c.reserve_changes.new.trail.items c.restrict_logged.new.trail.items i.store c.restrict_logged.new.store cs) c.deref-2.ensures.value (c.in_ok-lost.ensures.past cs)) in
-    state_is _ _ _ _ _ _ _ _ (c.in_ok-lost.ensures.lost none) refl (c.wake.ensures.cleared.kept none) (was.marked c.self.invariant.1 c.self.invariant.0.present) ∙ c.self.view_is
+    state_is _ _ _ _ _ _ _ _ _ _ (c.in_ok-lost.ensures.lost none) refl (c.wake.ensures.cleared.kept none) (was.marked c.self.invariant.1 c.self.invariant.0.present) refl ∙ c.self.view_is
+
+pub returns-clause-stays : goal.returns-clause-stays
+returns-clause-stays g c =
+    let i = c.self.inside in
+    subst (λ (s : RulesState). KeepsSettled s.rules (set_at s.domains) (set_at c.restrict_logged.new.store) s.settled c.wake.new.self.settled.items) c.self.view_is
+    (kept_cut i.rules.items c.in_ok-lost.lost c.args.variable (g.A.Allowed.members c.args.allowed.now) i.store c.restrict_logged.new.store i.queue.settled.items c.wake.new.self.settled.items
+    (rw c.deref-3.ensures.value at c.wake.ensures.cleared) c.in_ok-lost.ensures.cut c.in_ok-lost.ensures.kept)

@@ -20,7 +20,8 @@ invariant_of-self g c =
 pub returns : goal.returns
 returns g c =
     let i = c.self.inside in
-    state_is _ _ _ _ _ _ _ _ (ap (λ (s : RulesState). s.domains) c.self.view_is) (ap (λ (s : RulesState). s.rules) c.self.view_is)
+    state_is _ _ _ _ _ _ _ _ _ _ (ap (λ (s : RulesState). s.domains) c.self.view_is) (ap (λ (s : RulesState). s.rules) c.self.view_is)
     (ap (λ (s : RulesState). s.settled) c.self.view_is)
     (dropped_marks i.marks.items c.truncate.new.self.items i.trail.items c.clear_unmarked.new.trail.items _ c.args.mark c.truncate.ensures.items
     (rw c.deref.ensures.value at c.clear_unmarked.ensures) ∙ ap (λ (s : RulesState). take c.args.mark s.marked) c.self.view_is)
+    (c.truncate-2.ensures.items ∙ ap (λ (s : RulesState). take c.args.mark s.were_settled) c.self.view_is)

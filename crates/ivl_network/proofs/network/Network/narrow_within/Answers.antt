@@ -10,7 +10,7 @@ use Rattle.ivl_network.specs.Network.{AreRuleNarrowings, IsSoundRules, IsWaiting
 use Rattle.ivl_network.specs.Queue.{unsettled_count}
 use Rattle.ivl_store.specs.Narrowing.{AllPresent}
 use Rattle.ivl_store.specs.Settled.{AreLost, any_lost}
-use Rattle.ivl_network.specs.Settled.{AreSettledRules}
+use Rattle.ivl_network.specs.Settled.{AreSettledRules, AreTold, KeepsSettled}
 use Rattle.ivl_network.proofs.Costs.{counted_one}
 use Rattle.ivl_network.proofs.Indexes.{index_of_count}
 use Rattle.ivl_network.specs.Trail.{KeepsPast}
@@ -18,6 +18,7 @@ use Rattle.ivl_network.proofs.Logging.{state_is}
 use Rattle.ivl_network.proofs.Marks.{marks_same}
 use Rattle.ivl_network.proofs.Narrowings.{all_fixed, one_narrowing, sound_moved}
 use Rattle.ivl_store.proofs.Totals.{total_falls}
+use Rattle.ivl_network.proofs.Standing.{kept_same}
 use Rattle.ivl_network.proofs.Work.{work_less}
 use Rattle.ivl_network.proofs.network.Network.narrow_within.Goals as goal
 
@@ -35,7 +36,7 @@ pub returns-clause-fewer : goal.returns-clause-fewer
 returns-clause-fewer g c = λ _ _.
     let inside = c.self.inside in
     let flags = inside.queue.settled.items in
-    subst (λ (s : RulesState). 1 + work_of_rules g.B.Width.whole (record { domains = c.narrow_logged.new.store; rules = inside.rules.items; settled = c.settle.new.self.settled.items; marked = [] }) ≤ work_of_rules g.B.Width.whole s) c.self.view_is
+    subst (λ (s : RulesState). 1 + work_of_rules g.B.Width.whole (record { domains = c.narrow_logged.new.store; rules = inside.rules.items; settled = c.settle.new.self.settled.items; marked = []; were_settled = [] }) ≤ work_of_rules g.B.Width.whole s) c.self.view_is
     (work_less g.B.Width.whole inside.store c.narrow_logged.new.store (length inside.rules.items) flags c.settle.new.self.settled.items c.in-Some.i (any_lost c.in_ok-lost.lost) c.in-Some.ensures.first.0 c.in-Some.ensures.first.1
     (c.settle.ensures.count ∙ ap length c.deref-3.ensures.value) c.in_ok-lost.ensures.same (λ none. c.settle.ensures.alone none ∙ ap (λ (ms : List Bool). set ms c.in-Some.i true) c.first.ensures.settled)
     (λ t. total_falls g.B.Width.whole inside.store c.narrow_logged.new.store c.in_ok-lost.ensures.range c.narrow_logged.ensures.kept_count (λ i v h. ((c.in_ok-lost.ensures.narrowed i v).0 h).kept)
@@ -94,7 +95,7 @@ returns-then-cost-left-clause-costly g c = λ _.
     let lt : c.in-Some.i < length cs = (let a = c.in-Some.ensures.first.0 in let b = c.self.invariant.0.settled.one_each in omega (arith, a, b)) in
     let above = c.if-cost-left.true in
     let cost = c.cost_if-cost.ensures.cost (is_counted c.args.is_counted _ c.args.left c.cost_if-cost.ensures.none above) c.index-rule.result.now c.places-c.ensures in (
-      state_is _ _ _ _ _ _ _ _ refl refl c.first.ensures.settled refl ∙ c.self.view_is,
+      state_is _ _ _ _ _ _ _ _ _ _ refl refl c.first.ensures.settled refl refl ∙ c.self.view_is,
       c.index-rule.result.now,
       subst (λ (s : RulesState). IsWaiting s c.index-rule.result.now) c.self.view_is (c.in-Some.i, lt, sym c.index-rule.ensures, sym (get_or_default c.self.inside.queue.settled.items c.in-Some.i false true c.in-Some.ensures.first.0) ∙ c.in-Some.ensures.first.1),
       subst (λ (s : RulesState). c.args.left < cost_of_rule c.index-rule.result.now s.domains) c.self.view_is (omega (arith, above, cost)),
@@ -116,7 +117,26 @@ returns-in_default-clause-done g c = ((λ _. ap (λ (s : RulesState). unsettled_
 
 pub returns-in_default-clause-none : goal.returns-in_default-clause-none
 returns-in_default-clause-none g c = λ _. (
-  state_is _ _ _ _ _ _ _ _ refl refl c.first.ensures.settled refl ∙ c.self.view_is,
+  state_is _ _ _ _ _ _ _ _ _ _ refl refl c.first.ensures.settled refl refl ∙ c.self.view_is,
   subst (λ (s : RulesState). All (IsFixedBy (set_at s.domains)) s.rules) c.self.view_is
       (all_fixed c.self.inside.rules.items c.self.inside.queue.settled.items (set_at c.self.inside.store) c.self.invariant.0.settled c.in_default.ensures.first),
 )
+
+pub returns-clause-stays : goal.returns-clause-stays
+returns-clause-stays g c =
+    let inside = c.self.inside in
+    let cs = inside.rules.items in
+    let lt : c.in-Some.i < length cs = (let a = c.in-Some.ensures.first.0 in let b = c.self.invariant.0.settled.one_each in omega (arith, a, b)) in
+    let at = λ (d : Rule). sym (get_or_default cs c.in-Some.i d c.index-rule.result.now lt ∙ sym c.index-rule.ensures) in
+    let moved = rw c.deref-3.ensures.value at c.settle.ensures.stays in
+    subst (λ (s : RulesState). KeepsSettled s.rules (set_at s.domains) (set_at c.narrow_logged.new.store) s.settled c.settle.new.self.settled.items) c.self.view_is
+    (subst (λ (ms : List Bool). KeepsSettled cs (set_at inside.store) (set_at c.narrow_logged.new.store) ms c.settle.new.self.settled.items) c.first.ensures.settled
+    (moved inside.store (λ d. subst (λ k. AreTold (places k) c.in_ok-lost.lost (set_at inside.store) (set_at c.narrow_logged.new.store)) (at d) c.in_ok-lost.ensures.told)))
+
+pub returns-then-cost-left-clause-stays : goal.returns-then-cost-left-clause-stays
+returns-then-cost-left-clause-stays g c =
+    kept_same c.args.self.now _ (state_is _ _ _ _ _ _ _ _ _ _ refl refl c.first.ensures.settled refl refl ∙ c.self.view_is)
+
+pub returns-in_default-clause-stays : goal.returns-in_default-clause-stays
+returns-in_default-clause-stays g c =
+    kept_same c.args.self.now _ (state_is _ _ _ _ _ _ _ _ _ _ refl refl c.first.ensures.settled refl refl ∙ c.self.view_is)

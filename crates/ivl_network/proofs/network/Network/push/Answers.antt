@@ -71,13 +71,14 @@ pub returns-clause-added : goal.returns-clause-added
 returns-clause-added g c =
     let i = c.self.inside in
     let added : c.push_reserved.new.self.items ≡ i.rules.items ++ c.args.rule ∷ [] = c.push_reserved.ensures.items ∙ ap (λ l. l ++ c.args.rule ∷ []) c.reserve.ensures.items in
-    state_is _ _ _ _ _ _ _ _ (ap (λ (s : RulesState). s.domains) c.self.view_is)
+    state_is _ _ _ _ _ _ _ _ _ _ (ap (λ (s : RulesState). s.domains) c.self.view_is)
     (added ∙ ap (λ (s : RulesState). s.rules ++ c.args.rule ∷ []) c.self.view_is)
     (c.in_ok-push.ensures.added ∙ ap (λ (s : RulesState). s.settled ++ false ∷ []) c.self.view_is)
     (logged_marks i.marks.items i.trail.items c.reserve_changes.new.trail.items c.log_change.new.trail.items _ _ _ _ c.self.invariant.1
     c.reserve_changes.ensures.same c.log_change.ensures (reverts_rule {B = g.row.B.Denot} {O = g.row.B-Output.Denot} Require i.store i.rules.items c.push_reserved.new.self.items c.args.rule refl added)
     (λ f. sym c.deref.ensures.value ∙ c.is_logging-is_kept.ensures f)
     ∙ ap (λ (s : RulesState). s.marked) c.self.view_is)
+    (ap (λ (s : RulesState). s.were_settled) c.self.view_is)
 
 pub reserve_rule-requires : goal.reserve_rule-requires
 reserve_rule-requires g c = c.self.invariant.2.known.0

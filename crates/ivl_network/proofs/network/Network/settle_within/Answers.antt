@@ -77,10 +77,22 @@ loop-cost-preserved g c =
     let cost = c.in-Made.cost in
     let k = c.in_ok-narrow_within.ensures.counted refl cost c.in-Made.is in
     made_more g.B.Width.whole c.args.budget c.loop-cost.left _ c.args.self.now c.loop-cost.self c.narrow_within.new.self k.2 cost c.loop-cost.invariant
-    c.narrow_within.ensures.rules c.narrow_within.ensures.kept_count c.narrow_within.ensures.marked k.1 refl k.3
+    c.narrow_within.ensures.rules c.narrow_within.ensures.kept_count c.narrow_within.ensures.marked c.narrow_within.ensures.were_settled c.in_ok-narrow_within.ensures.stays k.1 refl k.3
     (c.in_ok-narrow_within.ensures.narrowed cost c.in-Made.is) (c.in_ok-narrow_within.ensures.fewer cost c.in-Made.is)
 
 pub returns-in_err-narrow_within-clause-made_before : goal.returns-in_err-narrow_within-clause-made_before
 returns-in_err-narrow_within-clause-made_before g c =
     let h = made_same g.B.Width.whole c.args.budget c.loop-cost.left c.args.self.now c.loop-cost.self c.narrow_within.new.self c.in_err-narrow_within.ensures.refused c.loop-cost.invariant in
     within_before c.from_residual.result g.B.Width.whole c.args.budget c.loop-cost.left c.args.self.now c.narrow_within.new.self h
+
+pub returns-in_err-narrow_within-clause-stays : goal.returns-in_err-narrow_within-clause-stays
+returns-in_err-narrow_within-clause-stays g c =
+    (made_same g.B.Width.whole c.args.budget c.loop-cost.left c.args.self.now c.loop-cost.self c.narrow_within.new.self c.in_err-narrow_within.ensures.refused c.loop-cost.invariant).stays
+
+pub returns-in-Settled-clause-stays : goal.returns-in-Settled-clause-stays
+returns-in-Settled-clause-stays g c =
+    (made_same g.B.Width.whole c.args.budget c.loop-cost.left c.args.self.now c.loop-cost.self c.narrow_within.new.self (c.in_ok-narrow_within.ensures.none c.in-Settled.is).0 c.loop-cost.invariant).stays
+
+pub returns-in-Costly-clause-stays : goal.returns-in-Costly-clause-stays
+returns-in-Costly-clause-stays g c =
+    (made_same g.B.Width.whole c.args.budget c.loop-cost.left c.args.self.now c.loop-cost.self c.narrow_within.new.self (c.in_ok-narrow_within.ensures.costly c.in-Costly.is).0 c.loop-cost.invariant).stays

@@ -58,3 +58,17 @@ returns-clause-undone g c = λ _ d.
     ∙ ap (rules_past_at i.trail.items now) (sym c.index-start.ensures) in
     let e = c.revert_to.ensures.past ∙ sym past in
     (ap (λ (p : RulesPast). p.domains) e, ap (λ (p : RulesPast). p.rules) e)
+
+pub returns-clause-were_settled : goal.returns-clause-were_settled
+returns-clause-were_settled g c = λ _. c.truncate-2.ensures.items ∙ ap (λ (s : RulesState). take c.args.mark s.were_settled) c.self.view_is
+
+pub returns-clause-settled : goal.returns-clause-settled
+returns-clause-settled g c = λ _ d were.
+    let i = c.self.inside in
+    let lt : c.args.mark < length i.marks.items = (let t = c.if-mark-len.false in let e = c.len.ensures in omega (arith, t, e)) in
+    let below : c.args.mark < length i.settled_at_marks.items = (
+    let o = c.self.invariant.4.one_each in
+    let m = length-map i.marks.items (rules_past_at i.trail.items (record { domains = i.store; rules = i.rules.items })) in
+    omega (arith, o, m, lt)) in
+    c.settle_all.ensures.none (c.index-were_settled.ensures ∙ get_or_default i.settled_at_marks.items c.args.mark c.index-were_settled.result.now d below
+    ∙ ap (λ (s : RulesState). get_or s.were_settled c.args.mark d) c.self.view_is ∙ were)

@@ -9,7 +9,8 @@ use Rattle.ivl_rules.specs.Rules.{HasPointAt, TakesOne, places}
 use Rattle.ivl_rules.specs.NarrowedSets.{AreLeftAtPlaces}
 use Rattle.ivl_rules.proofs.Places.{narrowed_after}
 use Rattle.ivl_network.proofs.Logging.{keeps_both}
-use Rattle.ivl_network.proofs.Losses.{lost_after, one_lost}
+use Rattle.ivl_network.specs.Settled.{AreTold}
+use Rattle.ivl_network.proofs.Losses.{lost_after, one_lost, one_told, told_after}
 use Rattle.ivl_network.proofs.network.narrowing.narrow_logged.Goals as goal
 
 pub returns-clause-narrowed : goal.returns-clause-narrowed
@@ -61,3 +62,23 @@ returns-in-Some-clause-lost g c =
     subst (λ (p : Constraint). AreLost (places rule) (record { x = eqb c.in-Some.taken.0 p.x; y = eqb c.in-Some.taken.0 p.y; z = false }) (set_at old) (set_at new))
     (sym c.requires.places)
     (one_lost rule c.in-Some.taken.0 (g.B.Width.value c.in-Some.taken.1) (set_at old) (set_at new) c.in-Some.ensures.differs one c.in_ok-take_out_logged.ensures.taken)
+
+pub returns-clause-told : goal.returns-clause-told
+returns-clause-told g c =
+    let rule = c.args.rule.now in let old = c.args.store.now in let k = c.args.c.now in
+    let e : c.replace_logged-3.new.store ≡ after (places rule) old c.in_ok-x.x c.in_ok-x.y c.in_ok-x.z =
+    c.replace_logged-3.ensures.put ∙ ap (λ s. narrowed_at s k.z c.in_ok-x.z) (c.replace_logged-2.ensures.put ∙ ap (λ s. narrowed_at s k.y c.in_ok-x.y) c.replace_logged.ensures.put)
+    ∙ ap (λ (p : Constraint). after p old c.in_ok-x.x c.in_ok-x.y c.in_ok-x.z) c.requires.places in
+    let left = subst (λ s. AreLeftAtPlaces g.B.Width.whole (places rule) (HasPointAt rule (set_at s)) s c.in_ok-x.x c.in_ok-x.y c.in_ok-x.z) c.domains-2.ensures.same c.in_ok-x.ensures in
+    rw e (told_after g.B.Width.whole rule old (after (places rule) old c.in_ok-x.x c.in_ok-x.y c.in_ok-x.z) _ _ _ _ left c.is_some.ensures c.is_some-2.ensures c.is_some-3.ensures
+    (narrowed_after g.B.Width.whole rule old _ _ _ c.requires.different c.requires.present left))
+
+pub returns-in-Some-clause-told : goal.returns-in-Some-clause-told
+returns-in-Some-clause-told g c =
+    let rule = c.args.rule.now in
+    let old = c.args.store.now in
+    let new = c.take_out_logged.new.store in
+    let one = subst (λ (sets : List (List (ℤ × ℤ))). TakesOne rule (set_at sets) c.in-Some.taken.0 (g.B.Width.value c.in-Some.taken.1)) c.domains.ensures.same c.in-Some.ensures.one in
+    subst (λ (p : Constraint). AreTold (places rule) (record { x = eqb c.in-Some.taken.0 p.x; y = eqb c.in-Some.taken.0 p.y; z = false }) (set_at old) (set_at new))
+    (sym c.requires.places)
+    (one_told rule c.in-Some.taken.0 (g.B.Width.value c.in-Some.taken.1) (set_at old) (set_at new) one c.in_ok-take_out_logged.ensures.taken)

@@ -18,10 +18,18 @@ pub fn write_solutions<W: Write>(
     write_end(writer, found.points.len(), found.end)
 }
 
-/// Writes the number of solutions, and then how their search ended.
+/// Writes the number of solutions, or that there are so many at least, and then how their search ended.
 pub fn write_count<W: Write>(writer: &mut W, count: usize, end: End) -> io::Result<()> {
-    writeln!(writer, "count {count}")?;
+    write_number(writer, count, end)?;
     write_end(writer, count, end)
+}
+
+fn write_number<W: Write>(writer: &mut W, count: usize, end: End) -> io::Result<()> {
+    match end {
+        End::All => writeln!(writer, "count {count}"),
+        End::Solutions => writeln!(writer, "count at least {count}"),
+        End::Nodes => writeln!(writer, "count at least {count}"),
+    }
 }
 
 /// Writes the best solution, if one was found, and then how the search ended.

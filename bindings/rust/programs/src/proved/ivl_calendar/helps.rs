@@ -1,0 +1,58 @@
+// Written by bindings/rust/extract from crates/ivl_calendar/src/helps.rt.
+//! What `help` answers.
+
+#[allow(unused_imports)]
+use crate::rattle::prelude::*;
+use crate::proved::ivl_calendar::faults::{Fault, write_fault};
+use crate::proved::ivl_calendar::replies::write_line;
+use crate::proved::ivl_lines::next_word;
+use crate::rattle::std::io;
+use crate::rattle::std::io::Write;
+
+const COMMANDS: &str =
+    "room, rooms, book, cancel, show, gap, free, who, of; help COMMAND tells what one does";
+
+const HELP: &str = "help or help COMMAND";
+
+/// Answers `help`, given the words after it: the commands, or what one of them does.
+pub fn write_help<W: Write>(writer: &mut W, words: &str) -> io::Result<()> {
+    let Some((name, rest)) = next_word(words) else {
+        return write_line(writer, COMMANDS);
+    };
+    match next_word(rest) {
+        None => write_help_of(writer, name),
+        Some(_) => write_fault(writer, &Fault::Form(HELP)),
+    }
+}
+
+fn write_help_of<W: Write>(writer: &mut W, name: &str) -> io::Result<()> {
+    match help_text(name) {
+        Some(text) => write_line(writer, text),
+        None => write_fault(writer, &Fault::Command(name)),
+    }
+}
+
+// What a command does, or `None` if there is no such command.
+fn help_text(name: &str) -> Option<&'static str> {
+    match name {
+        "room" => Some("room NAME: a new room, free on all days"),
+        "rooms" => Some("rooms: the names of the rooms"),
+        "book" => Some(
+            "book ROOM FIRST LAST WHO: books a room from the first day to the last, such as book blue 2026-03-01 2026-03-04 anna; the name may be left out",
+        ),
+        "cancel" => Some(
+            "cancel ROOM FIRST LAST: frees a room from the first day to the last, whoever booked it",
+        ),
+        "show" => Some("show ROOM: the bookings of a room, those with a name first"),
+        "gap" => Some(
+            "gap ROOM DAYS FIRST LAST: the first so many days in a row on which a room is free, between two days",
+        ),
+        "free" => Some("free FIRST LAST: the days between two days on which all rooms are free"),
+        "who" => Some(
+            "who ROOM DATE: the name for which a room is booked on a day, booked without a name, or free",
+        ),
+        "of" => Some("of WHO: the days that are booked for a name, each after its room"),
+        "help" => Some("help: the commands; help COMMAND: what one does"),
+        _ => None,
+    }
+}

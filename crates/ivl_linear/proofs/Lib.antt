@@ -1,0 +1,13 @@
+pub mod Totals
+pub mod Least
+pub mod Casts
+pub mod Quotients
+pub mod Windows
+pub mod Support
+pub mod Differing
+pub mod Telling
+pub mod Apart
+pub mod Rests
+pub mod Collecting
+pub mod Satisfying
+pub mod Narrowings
