@@ -1,7 +1,7 @@
 """Times sets of intervals in Python beside `intervaltree`, `SortedSet` of `sortedcontainers` and `set`, where these are installed.
 
-bindings/peers runs it, and makes a table of what it prints. A line is a task, the number of runs, a kind of set, and nanoseconds. An edit is half of the time of adding a number and taking it out. What would take longer than half a
-minute, by the time of fewer runs, is left out.
+bindings/peers runs it, and makes a table of what it prints. A line is a task, the number of runs, a kind of set, and nanoseconds. An edit is half of the time of adding a number and taking it out. What would take longer than five
+seconds, by the time of fewer runs, is left out.
 """
 
 import importlib
@@ -92,12 +92,12 @@ def main():
 
             def tell(task, call, share=1, grows=True):
                 before = took.get((task, name), 0)
-                if before * (1000 if grows else 1) > 30e9:
+                if before * (1000 if grows else 1) > 5e9:
                     return
                 took[task, name] = least(call)
                 print("%s\t%d\t%s\t%.1f" % (task, count, name, took[task, name] / share), flush=True)
 
-            if took.get(("make of runs", name), 0) * 1000 > 30e9:
+            if took.get(("make of runs", name), 0) * 1000 > 5e9:
                 continue
             a, b = make(first), make(second)
             free = [number for number in numbers if not has(a, number)]

@@ -68,7 +68,8 @@ LOOKS = [b"rooms"] + [f"show {room}".encode() for room in ROOMS] + [f"of {who}".
 
 def power_fails(path, model, lines):
     """Some lines are answered, and the program is ended in the middle, with a line that is torn; the model then has what the file has."""
-    child = subprocess.Popen(command("calendar", path), stdin=subprocess.PIPE, stdout=subprocess.PIPE)
+    # (without a buffer here, of which the last answers would be lost)
+    child = subprocess.Popen(command("calendar", path), stdin=subprocess.PIPE, stdout=subprocess.PIPE, bufsize=0)
     child.stdin.write(b"".join(line + b"\n" for line in lines))
     child.stdin.flush()
     answers = [child.stdout.readline() for _ in range(len(lines) // 2)]

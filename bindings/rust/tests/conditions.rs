@@ -244,7 +244,6 @@ fn debug_builds_test_the_conditions_of_linear_rules() {
     use intervallum::proved::ivl_linear::linear::narrowing::{narrow, rest_of_teller, rest_of_term};
     use intervallum::proved::ivl_linear::linear::sums::ends_of;
     use intervallum::proved::ivl_linear::linear::{Relation, Term};
-    use intervallum::proved::prelude::*;
     use intervallum::proved::{Global, IntervalSet};
 
     let domains = || [IntervalSet::<u8>::new(Global, 1, 2).unwrap()];

@@ -47,10 +47,11 @@ impl Write for Answer {
     }
 }
 
+/// Asks a session a line, and returns its answer.
+type Ask<'a> = dyn FnMut(&[u8]) -> Result<Vec<u8>, Fault> + 'a;
+
 /// Gives `with` a session that it can ask lines, and returns what it returns.
-fn session<P: Program, T>(
-    with: impl FnOnce(&mut dyn FnMut(&[u8]) -> Result<Vec<u8>, Fault>) -> Result<T, Fault>,
-) -> Result<T, Fault> {
+fn session<P: Program, T>(with: impl FnOnce(&mut Ask<'_>) -> Result<T, Fault>) -> Result<T, Fault> {
     let (to_lines, lines) = channel();
     let (answers, from_answers) = channel();
     thread::scope(|scope| {
@@ -78,11 +79,7 @@ fn session<P: Program, T>(
 }
 
 /// The lines that lead to the state of a session.
-fn state_lines(
-    words: &Words,
-    kept: &[Vec<u8>],
-    ask: &mut dyn FnMut(&[u8]) -> Result<Vec<u8>, Fault>,
-) -> Result<Vec<String>, Fault> {
+fn state_lines(words: &Words, kept: &[Vec<u8>], ask: &mut Ask<'_>) -> Result<Vec<String>, Fault> {
     let mut asked = |line: &str| {
         let answer = ask(line.as_bytes())?;
         let text = String::from_utf8(answer).map_err(|_| Fault::NoLines("an answer is not UTF-8".into()))?;
