@@ -36,7 +36,7 @@ class Screen:
             program = os.path.join(FOLDER, f"ivl_{name}")
             os.execv(program, [program, *words])
 
-    def read(self, until, seconds=20):
+    def read(self, until, seconds=60):
         """What the terminal shows, once this text is at its end; all of it where the program ends."""
         end = time.monotonic() + seconds
         shown = ""

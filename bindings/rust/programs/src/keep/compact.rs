@@ -91,9 +91,8 @@ fn state_lines(words: &Words, kept: &[Vec<u8>], ask: &mut Ask<'_>) -> Result<Vec
 /// Replaces the lines of a kept session by the fewest that lead to its state, and returns how many there were, and are. The new file
 /// takes the place of the old one once it is on the disk; both are locked until then.
 pub(super) fn compact<P: Program>(path: &Path, words: &Words) -> Result<(usize, usize), Fault> {
-    if !path.is_file() {
-        return Err(Fault::File(io::ErrorKind::NotFound.into()));
-    }
+    // (the file itself is replaced, and not a link to it)
+    let path = &fs::canonicalize(path).map_err(Fault::File)?;
     let mut file = KeptFile::open(path, P::NAME)?;
     let mut kept = Vec::new();
     let lines = session::<P, _>(|ask| {
@@ -119,7 +118,9 @@ pub(super) fn compact<P: Program>(path: &Path, words: &Words) -> Result<(usize, 
         Ok(rows)
     })?;
     let beside = beside(path);
-    let written = KeptFile::write(&beside, P::NAME, &rows).and_then(|()| fs::rename(&beside, path));
+    let written = fs::metadata(path)
+        .and_then(|old| KeptFile::write(&beside, P::NAME, &rows, old.permissions()))
+        .and_then(|()| fs::rename(&beside, path));
     if let Err(error) = written {
         let _ = fs::remove_file(&beside);
         return Err(Fault::File(error));
@@ -131,6 +132,6 @@ pub(super) fn compact<P: Program>(path: &Path, words: &Words) -> Result<(usize, 
 /// The name of the new file until it takes the place of the old one.
 fn beside(path: &Path) -> PathBuf {
     let mut name = path.as_os_str().to_owned();
-    name.push(".new");
+    name.push(".compacting");
     name.into()
 }

@@ -1,7 +1,7 @@
 //! The file of a session that is kept.
 use super::Fault;
 use super::lock::{Lock, lock};
-use std::fs::{File, OpenOptions};
+use std::fs::{File, OpenOptions, Permissions};
 use std::io::{self, BufRead, BufReader, Read, Seek, SeekFrom, Write};
 use std::path::Path;
 
@@ -50,9 +50,11 @@ impl KeptFile {
         Ok(KeptFile { file, lines, row: first, number: 1, last: 0, earlier: end, end, _lock: lock })
     }
 
-    /// Writes a new file with these lines, each with the checksum of its answer. It is on the disk when this returns.
-    pub(super) fn write(path: &Path, program: &str, rows: &[(u32, &[u8])]) -> io::Result<()> {
-        let mut file = OpenOptions::new().write(true).create_new(true).open(path)?;
+    /// Writes a new file with these lines, each with the checksum of its answer; one that was left half written goes. It is on the
+    /// disk when this returns.
+    pub(super) fn write(path: &Path, program: &str, rows: &[(u32, &[u8])], rights: Permissions) -> io::Result<()> {
+        let mut file = OpenOptions::new().write(true).create(true).truncate(true).open(path)?;
+        file.set_permissions(rights)?;
         let mut text = head(program).into_bytes();
         for (sum, line) in rows {
             text.extend_from_slice(format!("{sum:08x} ").as_bytes());
