@@ -223,7 +223,8 @@ pub fn main<P: Program>(proved: fn(HostRuntime) -> ExitCode, words: &'static Wor
     match arguments.as_slice() {
         [] if io::stdin().is_terminal() => at_terminal::<P>(words),
         [] => proved(HostRuntime),
-        [word] if word == "--help" || word == "--version" => proved(HostRuntime),
+        [word] if word == "--help" => help::<P>(proved),
+        [word] if word == "--version" => proved(HostRuntime),
         [keep, path] if keep == "--keep" => kept::<P>(path.as_ref(), words),
         [keep, path, compact] if keep == "--keep" && compact == "--compact" => compacted::<P>(path.as_ref(), words),
         [compact, keep, path] if keep == "--keep" && compact == "--compact" => compacted::<P>(path.as_ref(), words),
@@ -231,6 +232,21 @@ pub fn main<P: Program>(proved: fn(HostRuntime) -> ExitCode, words: &'static Wor
         [word, ..] if word == "--compact" => misused::<P>("--compact goes with --keep FILE"),
         [.., word] => misused::<P>(&format!("there is no argument {}; --help lists the lines", word.to_string_lossy())),
     }
+}
+
+/// What `--help` says of the arguments that are this module's.
+const HELP: &str = "\
+--keep FILE has each line that changes something in FILE, on the disk, before it is answered, and goes on where FILE
+ends. With --compact it writes FILE anew as the fewest lines, and ends. At a terminal quit ends the program.
+";
+
+/// Prints the help of a program, and then that of the arguments that are this module's.
+fn help<P: Program>(proved: fn(HostRuntime) -> ExitCode) -> ExitCode {
+    let printed = proved(HostRuntime);
+    if printed == ExitCode::SUCCESS && io::stdout().write_all(HELP.as_bytes()).is_err() {
+        return status::<P>(&Err(SessionFault::Write));
+    }
+    printed
 }
 
 /// Says what is wrong with the arguments.

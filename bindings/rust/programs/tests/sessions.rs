@@ -96,7 +96,8 @@ fn stored_runs() {
 fn arguments() {
     for (path, name, _) in &PROGRAMS {
         let (help, error, status) = ran(path, &["--help"], b"");
-        assert!(help.contains("--version prints the version.") && error.is_empty() && status == 0, "{name}");
+        assert!(help.contains("--version prints the version.") && help.contains("\n--keep FILE "), "{name}");
+        assert!(error.is_empty() && status == 0, "{name}");
         assert_eq!(
             ran(path, &["--version"], b""),
             (format!("{name} {}\n", env!("CARGO_PKG_VERSION")), String::new(), 0)
