@@ -279,7 +279,6 @@ fn set_of<'a>(alloc: Global, pairs: &[(i64, i64)]) -> Result<IntervalSet<i64>, F
 }
 
 /// The first pair whose first bound is above the second.
-
 fn first_crossed(pairs: &[(i64, i64)]) -> Option<(i64, i64)> {
     let mut rest = pairs;
     while let [pair, others @ ..] = rest {
