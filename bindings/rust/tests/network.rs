@@ -451,6 +451,30 @@ fn a_settled_rule_stops_nothing_however_much_it_counts_for() {
 }
 
 #[test]
+fn an_undo_wakes_no_rule_whose_domains_stay() {
+    let mut network = Network::new(Global);
+    for _ in 0..3 {
+        network.add_variable(evens(60)).unwrap();
+    }
+    network.require(Rule::Sum(Constraint { x: 0, y: 1, z: 2 })).unwrap();
+    assert_eq!(network.settle_within(43), Ok(Settled::All));
+    for _ in 0..2 {
+        network.add_variable(IntervalSet::new(Global, 0, 9).unwrap()).unwrap();
+    }
+    // not all is settled at the mark
+    network.require(Rule::Shifted { x: 3, y: 4, by: 1 }).unwrap();
+    let mark = network.mark().unwrap();
+    network.restrict_to_interval(3, Interval::new(5, 9)).unwrap();
+    assert_eq!(network.settle_within(5), Ok(Settled::All));
+    assert_eq!(network.domains()[4], IntervalSet::new(Global, 6, 9).unwrap());
+    assert!(network.undo_to(mark));
+    assert_eq!(network.settle_within(0), Ok(Settled::Unfinished));
+    // the rule that waits counts for one, and the sum for 43
+    assert_eq!(network.settle_within(1), Ok(Settled::All));
+    assert_eq!(network.domains()[4], IntervalSet::new(Global, 1, 9).unwrap());
+}
+
+#[test]
 fn what_changes_nothing_leaves_all_settled() {
     let rules = [
         Rule::Sum(Constraint { x: 0, y: 1, z: 2 }),
