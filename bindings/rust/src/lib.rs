@@ -69,8 +69,8 @@
 //!
 //! # Machines of 32 bits
 //!
-//! The proofs are about a `usize` of 64 bits. On 32 bits the crate compiles but for `proved::ivl_buffers`, and its tests pass; nothing
-//! is proved there. [`len`](IntervalSet::len) then answers `usize::MAX` for sets with more members.
+//! The proofs are about a `usize` of 64 bits. On 32 bits the crate compiles but for `proved::ivl_buffers`, and its tests are run by
+//! hand; nothing is proved there. [`len`](IntervalSet::len) then answers `usize::MAX` for sets with more members.
 #![no_std]
 #![forbid(unsafe_code)]
 #![warn(missing_docs)]
